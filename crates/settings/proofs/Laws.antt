@@ -1,13 +1,12 @@
 -- Laws of the refusal numbers, of D and U, and of settings that are taken. Assumes nothing.
 use Prim.Native.Nat.{ℕ, zero, suc, _+_, _-_, _*_, _/_, _%_, _≤_, _<_}
-use native.Mathlib.Nat.{div-zero, div-add-mod', div-mul-le-self, mod-lt, div-le-of-le-mul, suc-mul, zero-mul}
+use native.Mathlib.Nat.{div-zero, div-add-mod', add-div-right, div-mul-le-self, mod-lt, div-le-of-le-mul, suc-mul, zero-mul}
 use native.Mathlib.Omega.{arith}
-use mathlib.Core.Path.{_≡_, refl, sym, ap, _∙_}
+use mathlib.Core.Path.{_≡_, refl}
 use mathlib.Core.Bool.{Bool, true, false, not, _&&_, false≢true}
 use lib.Dec.{ltb, leb, lit<, lit≤}
 use borrow.Author.Tests.{ltb-true, ltb-false, leb-true, leb-false, not-false, le-ltb, lt-ltb}
 use Rattle.settings.specs.declared.Settings.{Settings}
-use Rattle.settings.specs.declared.Verdict.the-variants.{Taken, Refused}
 use Rattle.settings.specs.Refusal.{refuse}
 use Rattle.settings.specs.Settings.{ticksFor, fallTicks, riseTicks, within, inRange, settingsRefusal, verdictOf, numberOf, verdict, Accepted}
 
@@ -46,7 +45,14 @@ ticks-least rate h =
     let w = 5760 + (rate - 1) in
     one-less (w / rate) rate h (div-mul-le-self w rate)
 
--- so they are at most 5,760
+-- they are worked out by one division
+pub ticks-divided : (rate : ℕ) → 1 ≤ rate → ticksFor rate ≡ 5759 / rate + 1
+unfolding ticksFor
+ticks-divided rate h =
+    let e : 5760 + (rate - 1) ≡ 5759 + rate = omega arith in
+    rw e (add-div-right 5759 h)
+
+-- and at most 5,760
 pub ticks-most : (rate : ℕ) → ticksFor rate ≤ 5760
 unfolding ticksFor
 ticks-most zero = rw (div-zero) (lit≤ tt)
@@ -74,11 +80,13 @@ short-ahead x e need = go (ltb (x + e) need) refl
     go true t = let l = ltb-true (x + e) need t in lt-ltb x (need - e) (omega arith)
     go false t = let l = ltb-false (x + e) need t in le-ltb x (need - e) (omega arith)
 
-both : (a b : Bool) → (a && b) ≡ true → (a ≡ true) × (b ≡ true)
+-- two tests that are both passed
+pub both : (a b : Bool) → (a && b) ≡ true → (a ≡ true) × (b ≡ true)
 both true b e = (refl, e)
 both false b e = absurd (false≢true e)
 
-within-says : (low high n : ℕ) → within low high n ≡ true → (low ≤ n) × (n ≤ high)
+-- a number that is inside a range
+pub within-says : (low high n : ℕ) → within low high n ≡ true → (low ≤ n) × (n ≤ high)
 within-says low high n e =
     let p = both (leb low n) (leb n high) e in
     (leb-true low n (p .0), leb-true n high (p .1))
