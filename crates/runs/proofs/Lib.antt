@@ -1,0 +1,9 @@
+pub mod Rules
+pub mod Invariants
+pub mod Moments
+pub mod OpenRoad
+pub mod Agreement
+pub mod Demand
+pub mod Slices
+pub mod Through
+pub mod Running

@@ -1,0 +1,5 @@
+pub mod History
+pub mod Steps
+pub mod Demand
+pub mod Claims
+pub mod Run
