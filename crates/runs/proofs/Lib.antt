@@ -4,6 +4,11 @@ pub mod Moments
 pub mod OpenRoad
 pub mod Agreement
 pub mod Demand
+pub mod Commands
+pub mod Rising
+pub mod Counts
+pub mod Claims
 pub mod Slices
 pub mod Through
 pub mod Running
+pub mod Cases
