@@ -6,11 +6,12 @@ use mathlib.Core.Path.{_≡_, refl, ap}
 use mathlib.Core.List.{List, map}
 use lib.Ieee.{Float, nan}
 use lib.ListN.{length, drop, getD, set}
+use Rattle.cabinet.specs.Cabinet.{numberOf}
 use Rattle.bench.specs.declared.Bench.{Bench}
 use Rattle.bench.specs.declared.Moved.{Moved}
 use Rattle.runs.specs.declared.Step.{Step}
 use Rattle.runs.specs.Steps.{benchStepped, benchAfter, benchAnswers}
-use Rattle.runs.specs.Run.{stepOf, stepsOf, numberByte, orderByte, Beside, WentThrough}
+use Rattle.runs.specs.Run.{stepOf, stepsOf, orderByte, Beside, WentThrough}
 use Rattle.runs.proofs.Slices.{steps-next, steps-end, Filled, filled-none, filled-next, filled-all}
 
 module _ (ls ns : List ℕ) (rs : List Float) (answers₀ orders₀ : List ℕ) (first : Bench) where
@@ -21,7 +22,7 @@ module _ (ls ns : List ℕ) (rs : List Float) (answers₀ orders₀ : List ℕ) 
   pub record Through (answers orders : List ℕ) (b : Bench) (i : ℕ) : Type 0 where
     pub within : i ≤ length ls
     pub onward : benchAfter b (rest i) ≡ benchAfter first (stepsOf ls ns rs)
-    pub answered : Filled answers₀ answers i (map numberByte (benchAnswers b (rest i))) (map numberByte (benchAnswers first (stepsOf ls ns rs)))
+    pub answered : Filled answers₀ answers i (map numberOf (benchAnswers b (rest i))) (map numberOf (benchAnswers first (stepsOf ls ns rs)))
     pub ordered : Filled orders₀ orders i (map orderByte (benchAnswers b (rest i))) (map orderByte (benchAnswers first (stepsOf ls ns rs)))
 
   pub through-start : Through answers₀ orders₀ first 0
@@ -30,7 +31,7 @@ module _ (ls ns : List ℕ) (rs : List Float) (answers₀ orders₀ : List ℕ) 
   module _ (long : Beside (length ls) (length ns) (length rs) (length answers₀) (length orders₀)) (answers orders : List ℕ) (b : Bench) (i : ℕ) (t : Through answers orders b i) where
     -- one step more
     pub through-next : i < length ls → (m : Moved) (v w : ℕ) → m ≡ benchStepped b (stepOf (getD ls i 0) (getD ns i 0) (getD rs i nan)) →
-        v ≡ numberByte (m .answer) → w ≡ orderByte (m .answer) → Through (set answers i v) (set orders i w) (m .bench) (i + 1)
+        v ≡ numberOf (m .answer) → w ≡ orderByte (m .answer) → Through (set answers i v) (set orders i w) (m .bench) (i + 1)
     unfolding benchAfter benchAnswers
     through-next h m v w e p q =
         let n = steps-next ls ns rs i h (omega arith) (omega arith) in

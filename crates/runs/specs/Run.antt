@@ -54,10 +54,6 @@ stepsOf (letter ∷ letters) (n ∷ numbers) (reading ∷ readings) = stepOf let
 
 -- ---- what is written
 
--- the refusal number of an answer, 0 where the step is taken
-abbrev pub numberByte : Answer → ℕ
-numberByte a = numberOf a
-
 -- the record's letter of a command: D lower, U raise, 0 for none
 abbrev pub orderLetter : Order → ℕ
 orderLetter Nothing = 0
@@ -81,7 +77,7 @@ pub record Beside (letters numbers readings answers orders : ℕ) : Type 0 where
 -- the bench taken through a list of steps: the bench after it, and what was written
 pub record WentThrough (b : Bench) (xs : List Step) (r : Bench) (answers answersAfter orders ordersAfter : List ℕ) : Type 0 where
   pub bench : r ≡ benchAfter b xs
-  pub answered : answersAfter ≡ over (map numberByte (benchAnswers b xs)) answers
+  pub answered : answersAfter ≡ over (map numberOf (benchAnswers b xs)) answers
   pub ordered : ordersAfter ≡ over (map orderByte (benchAnswers b xs)) orders
 
 -- ---- run
