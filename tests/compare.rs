@@ -1,0 +1,310 @@
+// The proved library against the second program, on many inputs: seeded, so every run tries the same ones.
+//
+//   rt staticlib exports
+//   rustc -O --edition 2021 tests/compare.rs -L target/staticlib -l static=exports -o target/compare && target/compare
+//
+// Random lists of steps (refused ones among them; sensible and absurd readings, as f32 bit patterns; 1 to 96 trains; settings
+// that are refused) through `weqhaso_run`: every answer, every command, and the places beyond the list. Records of the accepted
+// steps, whole and damaged, through `weqhaso_read`: number and line. A mismatch prints the input that shows it.
+
+#[allow(dead_code)]
+#[path = "../second/second.rs"]
+mod second;
+
+use second::{check, read, record_of, Bench, Standing};
+
+extern "C" {
+    fn weqhaso_run(
+        e: u32,
+        f: u32,
+        p: u32,
+        q: u32,
+        w: u32,
+        x: u32,
+        y: u32,
+        letters: *const u8,
+        letters_len: usize,
+        numbers: *const u32,
+        numbers_len: usize,
+        readings: *const f32,
+        readings_len: usize,
+        answers: *mut u8,
+        answers_len: usize,
+        orders: *mut u8,
+        orders_len: usize,
+    ) -> u8;
+    fn weqhaso_read(text: *const u8, len: usize) -> u64;
+}
+
+const STEPS: u64 = 300_000;
+const UNTOUCHED: u8 = 99;
+
+// A small generator of numbers (xorshift).
+struct Random(u64);
+
+impl Random {
+    fn next(&mut self) -> u64 {
+        self.0 ^= self.0 << 13;
+        self.0 ^= self.0 >> 7;
+        self.0 ^= self.0 << 17;
+        self.0
+    }
+
+    fn below(&mut self, n: u64) -> u64 {
+        self.next() % n
+    }
+
+    fn one_of<T: Copy>(&mut self, from: &[T]) -> T {
+        from[self.below(from.len() as u64) as usize]
+    }
+}
+
+// Mostly settings that are taken, close to their limits; now and then one that is spoiled.
+fn settings(r: &mut Random) -> [u32; 7] {
+    let p = r.one_of(&[5760, 2880, 1921, 1919, 1440, 960, 577, 100]);
+    let q = r.one_of(&[5760, 2880, 1440, 700]);
+    let (d, u) = ((5760 + p - 1) / p, (5760 + q - 1) / q);
+    let e = d + 1 + r.below(5) as u32;
+    let f = e + r.below(6) as u32;
+    let mut s = [
+        e,
+        f,
+        p,
+        q,
+        r.below(6) as u32,
+        d + f - e + r.below(3) as u32,
+        u + r.below(3) as u32,
+    ];
+    if r.below(10) == 0 {
+        let i = r.below(7) as usize;
+        s[i] = r.one_of(&[
+            0,
+            1,
+            5761,
+            60000,
+            60001,
+            u32::MAX,
+            s[i] + 1,
+            s[i].wrapping_sub(1),
+        ]);
+    }
+    s
+}
+
+// Mostly a reading that the movement rule allows, at its limit or beyond it.
+fn reading(r: &mut Random, b: &Bench) -> f32 {
+    let some = r.below(50) as u32 * (r.below(6) / 5) as u32;
+    let angle = if b.cabinet.up {
+        (b.angle + b.settings[3] + some).min(5760)
+    } else {
+        b.angle.saturating_sub(b.settings[2] + some)
+    };
+    match r.below(12) {
+        0 => f32::from_bits(r.next() as u32),
+        1 => -0.0,
+        2 => 90.015625,
+        3 => r.below(5761) as f32 / 64.0,
+        4 => (r.below(5761) as f32 + 0.5) / 64.0,
+        _ => angle as f32 / 64.0,
+    }
+}
+
+// A list of steps with what the second program answers to each.
+#[derive(Default, Debug)]
+struct List {
+    letters: Vec<u8>,
+    numbers: Vec<u32>,
+    readings: Vec<f32>,
+    answers: Vec<u8>,
+    orders: Vec<u8>,
+    accepted: Vec<(char, u32)>,
+}
+
+impl List {
+    fn add(
+        &mut self,
+        letter: char,
+        number: u32,
+        reading: f32,
+        held: u32,
+        answer: Result<char, u8>,
+    ) {
+        self.letters.push(letter as u8);
+        self.numbers.push(number);
+        self.readings.push(reading);
+        self.answers.push(answer.err().unwrap_or(0));
+        self.orders
+            .push(answer.ok().filter(|c| *c != ' ').map_or(0, |c| c as u8));
+        if answer.is_ok() {
+            self.accepted.push((letter, held));
+        }
+    }
+}
+
+// A train that may do the step, with some luck; else any number.
+fn train(r: &mut Random, b: &Bench, many: u64, may: impl Fn(&Standing) -> bool) -> u32 {
+    let able: Vec<u32> = (0..96)
+        .filter(|i| may(&b.trains[*i]))
+        .map(|i| i as u32 + 1)
+        .collect();
+    match r.below(20) {
+        0 => 0,
+        1 => 97,
+        2 => r.next() as u32,
+        3..=11 if !able.is_empty() => r.one_of(&able),
+        _ => 1 + r.below(many) as u32,
+    }
+}
+
+fn steps(r: &mut Random, s: &[u32; 7]) -> List {
+    let mut list = List::default();
+    let Ok(mut b) = Bench::new(s) else {
+        list.add('A', 1, 0.0, 1, Ok(' '));
+        return list;
+    };
+    let many = r.one_of(&[1, 2, 3, 8, 96]);
+    for _ in 0..1 + r.below(120) {
+        let (now, due) = (b.now, s[0]);
+        let noise = f32::from_bits(r.next() as u32);
+        match r.below(10) {
+            0 | 1 => {
+                let n = train(r, &b, many, |t| matches!(t, Standing::Away));
+                let n = if n > 96 || r.below(4) == 0 {
+                    n
+                } else {
+                    1 + (n.max(1) - 1) % many as u32
+                };
+                list.add('A', n, noise, n, b.approach(n));
+            }
+            2 | 3 => {
+                let n = train(
+                    r,
+                    &b,
+                    many,
+                    |t| matches!(t, Standing::Coming(a) if a + due <= now),
+                );
+                list.add('O', n, noise, n, b.occupy(n));
+            }
+            4 => {
+                let n = train(r, &b, many, |t| matches!(t, Standing::Inside(_)));
+                list.add('L', n, noise, n, b.leave(n));
+            }
+            _ => {
+                let f = reading(r, &b);
+                let answer = b.clock(f);
+                list.add('T', r.next() as u32, f, b.angle, answer);
+            }
+        }
+    }
+    list
+}
+
+// Whether the library answers the list as the second program does, and leaves the places beyond it.
+fn same_run(r: &mut Random, s: &[u32; 7], list: &List) -> bool {
+    let number = check(s);
+    let n = list.letters.len();
+    let len = n + r.below(3) as usize;
+    let (mut answers, mut orders) = (vec![UNTOUCHED; len], vec![UNTOUCHED; len]);
+    let (mut want_answers, mut want_orders) = (answers.clone(), orders.clone());
+    if number == 0 {
+        want_answers[..n].copy_from_slice(&list.answers);
+        want_orders[..n].copy_from_slice(&list.orders);
+    }
+    let got = unsafe {
+        weqhaso_run(
+            s[0],
+            s[1],
+            s[2],
+            s[3],
+            s[4],
+            s[5],
+            s[6],
+            list.letters.as_ptr(),
+            n,
+            list.numbers.as_ptr(),
+            n,
+            list.readings.as_ptr(),
+            n,
+            answers.as_mut_ptr(),
+            len,
+            orders.as_mut_ptr(),
+            len,
+        )
+    };
+    let same = got == number && answers == want_answers && orders == want_orders;
+    if !same {
+        println!("settings {s:?}: {number} wanted, {got} got\n{list:?}\n{want_answers:?} wanted\n{answers:?} got\n{want_orders:?} wanted\n{orders:?} got");
+    }
+    same
+}
+
+// A line's first byte, where the text has a line.
+fn line_at(r: &mut Random, text: &[u8]) -> usize {
+    15 * r.below((text.len() as u64 / 15).max(1)) as usize
+}
+
+// Bytes changed, lines dropped, doubled or cut, something appended, a number off by one.
+fn damage(r: &mut Random, text: &mut Vec<u8>) {
+    let i = line_at(r, text);
+    let byte = r.below(text.len() as u64) as usize;
+    match r.below(8) {
+        0 => text[byte] = r.next() as u8,
+        1 => text[byte] = r.one_of(b"0123456789 AOLTDUS"),
+        2 => drop(text.drain(i..i + 15)),
+        3 => {
+            let line = text[i..i + 15].to_vec();
+            text.splice(i..i, line);
+        }
+        4 => text.truncate(byte),
+        5 => text.push(r.next() as u8),
+        k => {
+            let column = if k == 6 { 7 } else { 13 };
+            let digit = text[i + column];
+            if digit.is_ascii_digit() {
+                text[i + column] = if digit == b'9' { b'8' } else { digit + 1 };
+            }
+        }
+    }
+}
+
+fn same_text(text: &[u8]) -> bool {
+    let want = read(text)
+        .err()
+        .map_or((0, 0), |(number, line)| (number as u64, line as u64));
+    let got = unsafe { weqhaso_read(text.as_ptr(), text.len()) };
+    let same = (got % 256, got / 256) == want;
+    if !same {
+        println!(
+            "{want:?} wanted, {:?} got (number, line)\n{}",
+            (got % 256, got / 256),
+            String::from_utf8_lossy(text)
+        );
+    }
+    same
+}
+
+fn main() {
+    let mut r = Random(0x2545_f491_4f6c_dd1d);
+    let (mut tried, mut texts, mut differ) = (0, 0, 0);
+    while tried < STEPS {
+        let s = settings(&mut r);
+        let list = steps(&mut r, &s);
+        tried += list.letters.len() as u64;
+        differ += !same_run(&mut r, &s, &list) as u32;
+        let Ok((whole, _)) = record_of(&s, &list.accepted, 20_000) else {
+            continue;
+        };
+        for damaged in 0..6 {
+            let mut text = whole.clone();
+            for _ in 0..damaged.min(1 + r.below(2)) {
+                if text.len() >= 15 {
+                    damage(&mut r, &mut text);
+                }
+            }
+            texts += 1;
+            differ += !same_text(&text) as u32;
+        }
+    }
+    println!("{tried} steps and {texts} texts, {differ} differ");
+    std::process::exit((differ > 0) as i32);
+}
