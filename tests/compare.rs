@@ -4,14 +4,16 @@
 //   rustc -O --edition 2021 tests/compare.rs -L target/staticlib -l static=exports -o target/compare && target/compare
 //
 // Random lists of steps (refused ones among them; sensible and absurd readings, as f32 bit patterns; 1 to 96 trains; settings
-// that are refused) through `weqhaso_run`: every answer, every command, and the places beyond the list. Records of the accepted
-// steps, whole and damaged, through `weqhaso_read`: number and line. A mismatch prints the input that shows it.
+// that are refused) through `weqhaso_run`: every answer, every command, and the places beyond the list. The same lists through
+// `weqhaso_record`, into records just long enough, one byte shorter, longer and of any length: every answer, every byte, and how
+// many are used. Records of the accepted steps, whole and damaged, through `weqhaso_read`: number and line. A mismatch prints the
+// input that shows it.
 
 #[allow(dead_code)]
 #[path = "../second/second.rs"]
 mod second;
 
-use second::{check, read, record_of, Bench, Standing};
+use second::{check, read, record_of, Bench, Recorder, Standing, LINE_BYTES};
 
 extern "C" {
     fn weqhaso_run(
@@ -33,6 +35,25 @@ extern "C" {
         orders: *mut u8,
         orders_len: usize,
     ) -> u8;
+    fn weqhaso_record(
+        e: u32,
+        f: u32,
+        p: u32,
+        q: u32,
+        w: u32,
+        x: u32,
+        y: u32,
+        letters: *const u8,
+        letters_len: usize,
+        numbers: *const u32,
+        numbers_len: usize,
+        readings: *const f32,
+        readings_len: usize,
+        answers: *mut u8,
+        answers_len: usize,
+        out: *mut u8,
+        out_len: usize,
+    ) -> u64;
     fn weqhaso_read(text: *const u8, len: usize) -> u64;
 }
 
@@ -238,6 +259,89 @@ fn same_run(r: &mut Random, s: &[u32; 7], list: &List) -> bool {
     same
 }
 
+// What the second program records of the list: each step's answer and the bytes used, or the refusal of the start.
+fn recorded(s: &[u32; 7], list: &List, out: &mut [u8]) -> Result<(Vec<u8>, usize), u8> {
+    let mut recorder = Recorder::start(s, out)?;
+    let mut answers = Vec::new();
+    for (i, letter) in list.letters.iter().enumerate() {
+        let answer = match letter {
+            b'T' => recorder.clock(list.readings[i]),
+            _ => recorder.step(*letter as char, list.numbers[i]),
+        };
+        answers.push(answer.err().unwrap_or(0));
+    }
+    Ok((answers, LINE_BYTES * (recorder.lines.len() + 1)))
+}
+
+// The library's recording of a list.
+fn record(
+    s: &[u32; 7],
+    letters: &[u8],
+    numbers: &[u32],
+    readings: &[f32],
+    answers: &mut [u8],
+    out: &mut [u8],
+) -> u64 {
+    unsafe {
+        weqhaso_record(
+            s[0],
+            s[1],
+            s[2],
+            s[3],
+            s[4],
+            s[5],
+            s[6],
+            letters.as_ptr(),
+            letters.len(),
+            numbers.as_ptr(),
+            numbers.len(),
+            readings.as_ptr(),
+            readings.len(),
+            answers.as_mut_ptr(),
+            answers.len(),
+            out.as_mut_ptr(),
+            out.len(),
+        )
+    }
+}
+
+// Whether the library records the list in this many bytes as the second program does, and leaves all other places. Now and then
+// a letter stands for no step, or a slice is one place too short.
+fn same_record(r: &mut Random, s: &[u32; 7], list: &List, bytes: usize) -> bool {
+    let n = list.letters.len();
+    let spoiled = r.below(30);
+    let short = |k| n - (spoiled == k) as usize;
+    let mut letters = list.letters.clone();
+    if spoiled == 0 {
+        letters[r.below(n as u64) as usize] = r.one_of(b"DUS aolt\0\xff");
+    }
+    let numbers = &list.numbers[..short(1)];
+    let readings = &list.readings[..short(2)];
+    let beyond = r.below(3) as usize * (spoiled > 3) as usize;
+    let mut answers = vec![UNTOUCHED; short(3) + beyond];
+    let mut out: Vec<u8> = (0..bytes).map(|_| r.next() as u8).collect();
+
+    let (mut want_answers, mut want_out) = (answers.clone(), out.clone());
+    let whole = match (check(s), spoiled) {
+        (0, 0) => Err(15),
+        (0, 1..=3) => Err(14),
+        (0, _) => recorded(s, list, &mut want_out),
+        (k, _) => Err(k),
+    };
+    let want = whole.map_or_else(u64::from, |(each, used)| {
+        want_answers[..n].copy_from_slice(&each);
+        256 * used as u64
+    });
+    let got = record(s, &letters, numbers, readings, &mut answers, &mut out);
+    let same = got == want && answers == want_answers && out == want_out;
+    if !same {
+        println!("settings {s:?}, spoiled {spoiled}, {bytes} bytes: {want} wanted, {got} got");
+        println!("{letters:?}\n{list:?}\n{want_answers:?} wanted\n{answers:?} got");
+        println!("{want_out:?} wanted\n{out:?} got");
+    }
+    same
+}
+
 // A line's first byte, where the text has a line.
 fn line_at(r: &mut Random, text: &[u8]) -> usize {
     15 * r.below((text.len() as u64 / 15).max(1)) as usize
@@ -285,12 +389,20 @@ fn same_text(text: &[u8]) -> bool {
 
 fn main() {
     let mut r = Random(0x2545_f491_4f6c_dd1d);
-    let (mut tried, mut texts, mut differ) = (0, 0, 0);
+    let mut q = Random(0x9e37_79b9_7f4a_7c15);
+    let (mut tried, mut records, mut texts, mut differ) = (0, 0, 0, 0);
     while tried < STEPS {
         let s = settings(&mut r);
         let list = steps(&mut r, &s);
         tried += list.letters.len() as u64;
         differ += !same_run(&mut r, &s, &list) as u32;
+        let used = recorded(&s, &list, &mut vec![0; 20_000]).map_or(135, |(_, used)| used);
+        let more = used + 1 + q.below(40) as usize;
+        let any = q.below(used as u64 + 40) as usize;
+        for bytes in [used, used - 1, more, any] {
+            records += 1;
+            differ += !same_record(&mut q, &s, &list, bytes) as u32;
+        }
         let Ok((whole, _)) = record_of(&s, &list.accepted, 20_000) else {
             continue;
         };
@@ -305,6 +417,6 @@ fn main() {
             differ += !same_text(&text) as u32;
         }
     }
-    println!("{tried} steps and {texts} texts, {differ} differ");
+    println!("{tried} steps, {records} recordings and {texts} texts, {differ} differ");
     std::process::exit((differ > 0) as i32);
 }

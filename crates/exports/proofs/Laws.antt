@@ -1,13 +1,29 @@
--- What the contract of `runs::run` says by the number of its verdict. Assumes nothing.
-use Prim.Native.Nat.{ℕ, zero, suc}
-use mathlib.Core.Path.{_≡_, refl, ap, _∙_}
-use mathlib.Core.List.{List}
+-- What the contracts of `runs::run`, `record::record_run` and `report::report` say by the number of their answers. Assumes nothing.
+use Prim.Native.Nat.{ℕ, zero, suc, _+_, _≤_}
+use native.Mathlib.Omega.{arith}
+use mathlib.Core.Path.{_≡_, refl, sym, ap, _∙_}
+use mathlib.Core.Bool.{Bool, true, false, cond}
+use mathlib.Core.Logic.{_⊎_, inl, inr}
+use mathlib.Core.List.{List, []}
+use lib.ListN.{length, take-append-drop}
 use Rattle.settings.specs.declared.Settings.{Settings}
 use Rattle.settings.specs.Settings.{numberOf}
+use Rattle.cabinet.specs.declared.Order.the-variants.{Nothing}
+use Rattle.cabinet.specs.declared.Answer.the-variants.{Taken}
+use Rattle.cabinet.specs.Cabinet as cabinet
 use Rattle.runs.specs.declared.Step.{Step}
 use Rattle.runs.specs.declared.Finished.{Finished}
-use Rattle.runs.specs.Run.{finishedBy, Ran}
-use Rattle.exports.specs.Exports.{Answered}
+use Rattle.runs.specs.Run.{finishedBy, written, Ran}
+use Rattle.record.specs.declared.Recorded.{Recorded}
+use Rattle.record.specs.Text.{text}
+use Rattle.record.specs.Recorder.{startAnswer}
+use Rattle.record.specs.Recording.{begun, recordedAfter, runSoFar}
+use Rattle.record.specs.RunRecorded.{recordedRun, recordedBytes, RunRecorded}
+use Rattle.record.proofs.Recording.{keeps-always, ends-always}
+use Rattle.lines.specs.Bytes.{fits}
+use Rattle.report.specs.declared.Reported.{Reported}
+use Rattle.report.specs.Report.{writtenBytes, shortBuffer, Written}
+use Rattle.exports.specs.Exports.{Answered, pack, bytesOf, RecordAnswered, Reports}
 
 number-finished : (k : ℕ) (s : Settings) (xs : List Step) → numberOf (finishedBy k s xs .verdict) ≡ k
 number-finished zero s xs = refl
@@ -22,3 +38,64 @@ answered-run s xs k r a b o p n ran e =
       ordered = ran .ordered;
       demand = ran .demand;
     }
+
+-- ---- a recording
+
+module _ (s : Settings) (xs : List Step) (d : List ℕ) where
+  -- the number of what comes back
+  number-recorded : (k : ℕ) → cabinet.numberOf (recordedRun k s d xs .answer) ≡ k
+  number-recorded zero = refl
+  number-recorded (suc k) = refl
+
+  -- the text of the run that is recorded
+  abbrev recorded : List ℕ
+  recorded = text s (runSoFar s (length d) [] xs)
+
+  -- its end is the end of the record, and within it
+  end-recorded : (k : ℕ) → k ≡ 0 → startAnswer s d ≡ Taken Nothing → (recordedRun k s d xs .recorder .at + 15 ≡ length recorded) × (length recorded ≤ length d)
+  end-recorded k z a = rw z (ends-always s d xs a)
+
+  -- what the record holds is the text, and after it the bytes that were there
+  bytes-recorded : (k : ℕ) → (k ≡ 0 → startAnswer s d ≡ Taken Nothing) → recordedBytes k s d xs ≡ written k recorded d
+  bytes-recorded zero a =
+      let w = recordedAfter (begun s d) xs in
+      let keeps = keeps-always s d xs (a refl) in
+      let end : w .recorder .at + 15 ≡ length recorded = ends-always s d xs (a refl) .0 in
+      sym (take-append-drop (w .recorder .at + 15) (w .bytes)) ∙ rw (keeps .written, keeps .others, end)
+  bytes-recorded (suc k) a = refl
+
+  -- its bytes, or none
+  count-recorded : (k bytes : ℕ) → (k ≡ 0 → bytes ≡ length recorded) → ((k ≡ 0 → ⊥) → bytes ≡ 0) → bytes ≡ bytesOf k recorded
+  count-recorded zero bytes p q = p refl
+  count-recorded (suc k) bytes p q = q (λ z. omega arith)
+
+module _ (s : Settings) (xs : List Step) (k : ℕ) (r : Recorded) (answers answersAfter d e : List ℕ) (starts : k ≡ 0 → startAnswer s d ≡ Taken Nothing)
+    (ran : RunRecorded s xs k r answers answersAfter d e) (n : ℕ) (numbered : n ≡ cabinet.numberOf (r .answer)) where
+  number-is : n ≡ k
+  number-is = numbered ∙ ap (λ (g : Recorded). cabinet.numberOf (g .answer)) (ran .gives) ∙ number-recorded s xs d k
+
+  -- the end of a record that is taken is the end of its text
+  pub record-end : n ≡ 0 → (r .recorder .at + 15 ≡ length (recorded s xs d)) × (length (recorded s xs d) ≤ length d)
+  record-end z = let zero-k = sym number-is ∙ z in rw (ran .gives) (end-recorded s xs d k zero-k (starts zero-k))
+
+  -- a recording that was answered by its bytes and its number
+  pub record-answered : (bytes : ℕ) → ((n ≡ 0) × (bytes ≡ r .recorder .at + 15)) ⊎ ((n ≡ 0 → ⊥) × (bytes ≡ 0)) →
+      RecordAnswered s xs k (pack bytes n) answers answersAfter d e
+  record-answered bytes came =
+      record {
+        number = rw number-is (ap (λ (m : ℕ). pack m k) (count came));
+        numbered = ran .numbered;
+        bytes = ran .leaves ∙ bytes-recorded s xs d k starts;
+      }
+    where
+      count : ((n ≡ 0) × (bytes ≡ r .recorder .at + 15)) ⊎ ((n ≡ 0 → ⊥) × (bytes ≡ 0)) → bytes ≡ bytesOf k (recorded s xs d)
+      count (inl x) = count-recorded s xs d k bytes (λ z. x .1 ∙ record-end (x .0) .0) (λ f. absurd (f (sym number-is ∙ x .0)))
+      count (inr x) = count-recorded s xs d k bytes (λ z. absurd (x .0 (number-is ∙ z))) (λ f. x .1)
+
+-- a report that was answered by its bytes and its number
+pub report-answered : (lines out : List ℕ) (g : Reported) (after : List ℕ) (n : ℕ) → Written lines out g after → n ≡ numberOf (g .verdict) → Reports lines out (pack (g .bytes) n) after
+report-answered lines out g after n w e = record { number = rw e (ap (λ (x : Reported). pack (x .bytes) (numberOf (x .verdict))) (w .gives) ∙ go (fits out 0 (length lines))); bytes = w .left }
+  where
+    go : (b : Bool) → pack (cond b (writtenBytes (length lines)) shortBuffer .bytes) (numberOf (cond b (writtenBytes (length lines)) shortBuffer .verdict)) ≡ cond b (pack (length lines) 0) 14
+    go true = refl
+    go false = refl

@@ -1,13 +1,19 @@
--- What the functions of the static library give: those of `runs` and `reader`, by numbers and slices. Assumes nothing.
-use Prim.Native.Nat.{ℕ, _+_, _*_, _%_}
+-- What the functions of the static library give: those of `runs`, `record`, `reader` and `report`, by numbers and slices. Assumes nothing.
+use Prim.Native.Nat.{ℕ, zero, suc, _+_, _*_, _%_}
 use mathlib.Core.Path.{_≡_}
+use mathlib.Core.Bool.{cond}
 use mathlib.Core.List.{List, [], map}
+use lib.ListN.{length}
 use Rattle.settings.specs.declared.Settings.{Settings}
 use Rattle.settings.specs.Settings.{numberOf}
 use Rattle.runs.specs.declared.Step.{Step}
 use Rattle.runs.specs.History as rules
 use Rattle.runs.specs.Run.{written, orderLetter}
 use Rattle.runs.specs.Demand.{Demand3}
+use Rattle.record.specs.Text.{text}
+use Rattle.record.specs.Recording.{runSoFar}
+use Rattle.record.specs.RunRecorded.{recordVerdicts}
+use Rattle.lines.specs.Bytes.{fits, splice}
 use Rattle.reader.specs.declared.Outcome.{Outcome}
 
 -- the seven settings in document 01's order
@@ -21,6 +27,27 @@ pub record Answered (s : Settings) (xs : List Step) (k r : ℕ) (answers answers
   pub ordered : ordersAfter ≡ written k (map orderLetter (rules.orders s [] xs)) orders
   pub demand : k ≡ 0 → Demand3 s xs
 
--- 256 times the line, and the number; the line is counted up to 2 ^ 56
+-- 256 times a count, and a refusal number; the count up to 2 ^ 56
+abbrev pub pack : ℕ → ℕ → ℕ
+pack n k = (n % 72057594037927936) * 256 + k
+
+-- the bytes of a record with this text; 0 where the recording is refused
+abbrev pub bytesOf : ℕ → List ℕ → ℕ
+bytesOf zero t = length t
+bytesOf (suc k) t = 0
+
+-- a recording of a list xs with this refusal number, in the record d: the record's bytes and the number are answered, what the rules say of the list is
+-- written beside it, and the text of its run into the record
+pub record RecordAnswered (s : Settings) (xs : List Step) (k r : ℕ) (answers answersAfter d e : List ℕ) : Type 0 where
+  pub number : r ≡ pack (bytesOf k (text s (runSoFar s (length d) [] xs))) k
+  pub numbered : answersAfter ≡ written k (recordVerdicts s (length d) [] xs) answers
+  pub bytes : e ≡ written k (text s (runSoFar s (length d) [] xs)) d
+
+-- the line, and the number
 abbrev pub packed : Outcome → ℕ
-packed o = (o .line % 72057594037927936) * 256 + numberOf (o .verdict)
+packed o = pack (o .line) (numberOf (o .verdict))
+
+-- a report's lines into the buffer: their bytes are answered and written where they fit; or 14 is answered, and the buffer is as it was
+pub record Reports (lines out : List ℕ) (r : ℕ) (after : List ℕ) : Type 0 where
+  pub number : r ≡ cond (fits out 0 (length lines)) (pack (length lines) 0) 14
+  pub bytes : after ≡ cond (fits out 0 (length lines)) (splice out 0 lines) out

@@ -1,4 +1,4 @@
--- The report of document 01's sample run. Assumes nothing.
+-- The report of document 01's sample run, of one cut short, and of two stretches that touch. Assumes nothing.
 use Prim.Native.Nat.{ℕ}
 use mathlib.Core.Path.{_≡_, refl}
 use mathlib.Core.Bool.{false}
@@ -9,25 +9,28 @@ use Rattle.arm.specs.Shown.{readingOf}
 use Rattle.lines.specs.Numeral.{numeral, figureOf}
 use Rattle.runs.specs.declared.Step.{Step}
 use Rattle.runs.specs.declared.Step.the-variants.{Approach, Occupy, Leave, Clock}
-use Rattle.report.specs.Stretches.{ended, anglesFrom, loweredFrom, occupiedFrom, countBelow}
+use Rattle.runs.specs.History.{someFrom}
+use Rattle.report.specs.Stretches.{laterMoments, only, stretchesFrom, armBelow, someInside}
 use Rattle.report.specs.Report.{reportLine, merged, runReport}
 
+-- a clock step with an angle in 64ths
 abbrev tick : ℕ → Step
 tick angle = Clock (fin false angle (negsuc 5))
 
-abbrev sample : List Step
-sample = Approach 1 ∷ tick 5760 ∷ tick 2880 ∷ tick 0 ∷ Occupy 1 ∷ tick 0 ∷ Leave 1 ∷ tick 5760 ∷ []
+abbrev entered : List Step
+entered = Approach 1 ∷ tick 5760 ∷ tick 2880 ∷ tick 0 ∷ Occupy 1 ∷ tick 0 ∷ []
 
-sample-report : runReport sample ≡ reportLine 2 4 78 ++ reportLine 3 4 79 ++ reportLine 1 3 90
-unfolding runReport merged reportLine numeral figureOf anglesFrom loweredFrom occupiedFrom countBelow readingOf
+-- document 01's sample
+pub sample-report : runReport (entered ++ (Leave 1 ∷ tick 5760 ∷ [])) ≡ reportLine 2 4 78 ++ reportLine 3 4 79 ++ reportLine 1 3 90
+unfolding runReport merged reportLine numeral figureOf laterMoments only stretchesFrom armBelow someInside someFrom readingOf
 sample-report = refl
 
 -- cut while train 1 is inside: both are running
-running-report : runReport (Approach 1 ∷ tick 5760 ∷ tick 2880 ∷ tick 0 ∷ Occupy 1 ∷ tick 0 ∷ []) ≡ reportLine 2 4 110 ++ reportLine 3 4 111 ++ reportLine 1 3 90
-unfolding runReport merged reportLine numeral figureOf anglesFrom loweredFrom occupiedFrom countBelow readingOf
+pub running-report : runReport entered ≡ reportLine 2 4 110 ++ reportLine 3 4 111 ++ reportLine 1 3 90
+unfolding runReport merged reportLine numeral figureOf laterMoments only stretchesFrom armBelow someInside someFrom readingOf
 running-report = refl
 
--- two stretches that touch stay two; N comes before O where they begin together
-touching-report : merged 3 (ended 2 9 ∷ []) (ended 2 4 ∷ ended 4 5 ∷ []) ≡ reportLine 2 9 78 ++ reportLine 2 4 79 ++ reportLine 4 5 79
-unfolding merged reportLine numeral figureOf
+-- train 1 leaves and train 2 is inside at once: two stretches
+pub touching-report : runReport (Approach 2 ∷ entered ++ (Leave 1 ∷ Occupy 2 ∷ tick 0 ∷ Leave 2 ∷ [])) ≡ reportLine 2 5 110 ++ reportLine 3 4 79 ++ reportLine 4 5 79 ++ reportLine 2 4 90
+unfolding runReport merged reportLine numeral figureOf laterMoments only stretchesFrom armBelow someInside someFrom readingOf
 touching-report = refl

@@ -1,1 +1,10 @@
+pub mod Rows
+pub mod Marks
+pub mod Gather
+pub mod Inside
+pub mod Passes
+pub mod Merge
+pub mod Merged
+pub mod Answers
+pub mod Texts
 pub mod Cases

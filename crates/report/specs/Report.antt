@@ -1,25 +1,33 @@
--- The report's lines (document 01, "Report program"). Assumes nothing.
+-- The report of a record text (document 01, "Report program"). Assumes nothing.
+-- Decides beyond it: a buffer too short for an R line is 14 and 0 too; the answer says how many bytes were written.
 use Prim.Native.Nat.{ℕ, zero, suc, _+_}
-use mathlib.Core.Bool.{Bool, cond}
+use mathlib.Core.Path.{_≡_}
+use mathlib.Core.Bool.{cond}
 use mathlib.Core.List.{List, [], _∷_, _++_}
 use lib.Dec.{leb, ltb}
 use lib.ListN.{length}
 use Rattle.settings.specs.declared.Verdict.{Verdict}
 use Rattle.settings.specs.declared.Verdict.the-variants.{Taken, Refused}
 use Rattle.lines.specs.Numeral.{numeral}
+use Rattle.lines.specs.Bytes.{fits, splice}
 use Rattle.runs.specs.declared.Step.{Step}
-use Rattle.reader.specs.declared.Outcome.{Outcome}
 use Rattle.reader.specs.Read.{readText}
 use Rattle.reader.specs.Round.{runOf}
-use Rattle.report.specs.Stretches.{Stretch, angles, lowered, occupied, countBelow}
+use Rattle.report.specs.declared.Reported.{Reported}
+use Rattle.report.specs.Stretches.{Stretch, lowered, occupied, below}
+
+-- ---- lines
 
 -- two numbers in 8 columns each, a blank, a letter, the byte 10
 unfoldable pub reportLine : ℕ → ℕ → ℕ → List ℕ
 reportLine n m c = numeral 8 n ++ (numeral 8 m ++ (32 ∷ c ∷ 10 ∷ []))
 
--- a stretch's line: its letter, or the small one where it is still running
+-- a stretch's letter: the small one where it is still running
+abbrev pub stretchLetter : ℕ → Stretch → ℕ
+stretchLetter c x = cond (x .running) (c + 32) c
+
 abbrev pub stretchLine : ℕ → Stretch → List ℕ
-stretchLine c x = reportLine (x .first) (x .last) (cond (x .running) (c + 32) c)
+stretchLine c x = reportLine (x .first) (x .last) (stretchLetter c x)
 
 -- by first instant, N before O if equal, stretches of one kind as they happened; `fuel` lines at most
 unfoldable pub merged : ℕ → List Stretch → List Stretch → List ℕ
@@ -30,16 +38,37 @@ merged (suc fuel) [] (o ∷ os) = stretchLine 79 o ++ merged fuel [] os
 merged (suc fuel) (n ∷ ns) (o ∷ os) =
     cond (leb (n .first) (o .first)) (stretchLine 78 n ++ merged fuel ns (o ∷ os)) (stretchLine 79 o ++ merged fuel (n ∷ ns) os)
 
--- an accepted run's report: its stretches, and Z with their numbers
+-- ---- reports
+
+-- an accepted run's report: its stretches, and Z with the number of O and o lines and of instants below 5,760
 unfoldable pub runReport : List Step → List ℕ
 runReport xs =
     merged (length (lowered xs) + length (occupied xs)) (lowered xs) (occupied xs)
-    ++ reportLine (length (occupied xs)) (countBelow (angles xs)) 90
+    ++ reportLine (length (occupied xs)) (length (below xs)) 90
 
--- a text's report: R alone for a refused one
+-- a refused text's report: R alone, with the number and the line
+abbrev pub refusalReport : ℕ → ℕ → List ℕ
+refusalReport number line = reportLine number line 82
+
 abbrev pub reportBy : Verdict → ℕ → List Step → List ℕ
-reportBy Taken i xs = runReport xs
-reportBy (Refused k) i xs = reportLine k i 82
+reportBy Taken line xs = runReport xs
+reportBy (Refused number) line xs = refusalReport number line
 
+-- a text's report; above 65,535 bytes it is refused, 14 and 0
 unfoldable pub reportOf : List ℕ → List ℕ
-reportOf t = cond (ltb 65535 (length t)) (reportLine 14 0 82) (reportBy (readText t .verdict) (readText t .line) (runOf t))
+reportOf t = cond (ltb 65535 (length t)) (refusalReport 14 0) (reportBy (readText t .verdict) (readText t .line) (runOf t))
+
+-- ---- a report written into a lent buffer
+
+-- so many bytes were written
+abbrev pub writtenBytes : ℕ → Reported
+writtenBytes n = record { verdict = Taken; line = 0; bytes = n }
+
+-- the buffer is too short
+abbrev pub shortBuffer : Reported
+shortBuffer = record { verdict = Refused 14; line = 0; bytes = 0 }
+
+-- the lines from the buffer's first byte on and all else as it was; or all as it was
+pub record Written (lines out : List ℕ) (r : Reported) (after : List ℕ) : Type 0 where
+  pub gives : r ≡ cond (fits out 0 (length lines)) (writtenBytes (length lines)) shortBuffer
+  pub left : after ≡ cond (fits out 0 (length lines)) (splice out 0 lines) out

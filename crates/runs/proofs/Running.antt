@@ -30,7 +30,7 @@ refused-first zero n rest e = absurd (let z : _≡_ {A = ℕ} 0 1 = cc in omega 
 refused-first (suc k) n rest e = sym (verdict-refused (suc k) n e)
 
 -- a run that nothing refuses: the settings are taken, and each slice is long enough
-none-first : (x rest : ℕ) → orElse x rest ≡ 0 → (x ≡ 0) × (rest ≡ 0)
+pub none-first : (x rest : ℕ) → orElse x rest ≡ 0 → (x ≡ 0) × (rest ≡ 0)
 none-first zero rest e = (refl, e)
 none-first (suc k) rest e = absurd (let z : suc k ≡ 0 = e in omega arith)
 

@@ -1,11 +1,9 @@
 // The starred bench cases of document 01 through the built functions. Each check is proved: it follows from the contracts of what it calls.
 ghost use mathlib.Core.Path.{_≡_};
 ghost use mathlib.Core.Bool.{true};
-ghost use Rattle.settings.specs.Settings.{numberOf};
 ghost use Rattle.starred.specs.Settings.{like};
 ghost use Rattle.starred.specs.Expected.{Expected};
 use settings::Settings;
-use settings::Verdict;
 
 // The settings K of document 01, with another earliest, rise rate, ahead or behind margin.
 fn settings_like(earliest: u32, rise: u32, ahead: u32, behind: u32) -> Settings
@@ -22,15 +20,6 @@ fn settings_like(earliest: u32, rise: u32, ahead: u32, behind: u32) -> Settings
     }
 }
 
-fn number(v: Verdict) -> u8
-    ensures { λ r. ⌜ r ≡ numberOf v ⌝ }
-{
-    match v {
-        Verdict::Taken => 0,
-        Verdict::Refused(k) => k,
-    }
-}
-
 // D for five fall rates.
 fn case_a() {
     check::expect(settings::ticks_for(5760) == 1);
@@ -42,11 +31,11 @@ fn case_a() {
 
 // K is accepted; with E 2: 2; with X 2: 3; with Q 2880: 4; with Y 0: 1.
 fn cases_b_c_d() {
-    check::expect(number(settings::check(settings_like(3, 5760, 3, 1))) == 0);
-    check::expect(number(settings::check(settings_like(2, 5760, 3, 1))) == 2);
-    check::expect(number(settings::check(settings_like(3, 5760, 2, 1))) == 3);
-    check::expect(number(settings::check(settings_like(3, 2880, 3, 1))) == 4);
-    check::expect(number(settings::check(settings_like(3, 5760, 3, 0))) == 1);
+    check::expect(settings::number(settings::check(settings_like(3, 5760, 3, 1))) == 0);
+    check::expect(settings::number(settings::check(settings_like(2, 5760, 3, 1))) == 2);
+    check::expect(settings::number(settings::check(settings_like(3, 5760, 2, 1))) == 3);
+    check::expect(settings::number(settings::check(settings_like(3, 2880, 3, 1))) == 4);
+    check::expect(settings::number(settings::check(settings_like(3, 5760, 3, 0))) == 1);
 }
 
 // Whether a run under K answers each step of a list of at most 16 with these numbers and these commands (D 68, U 85).

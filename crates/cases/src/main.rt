@@ -1,0 +1,250 @@
+// The bench cases a to m of document 01 through the built functions, one line each, and its sample record with the report.
+// A step shows 0 (taken with no command), D or U (taken, with that command) or its refusal number; `second/expected` has the same lines.
+use arm::Command;
+use arm::Reading;
+use bench::Bench;
+use bench::Moved;
+use cabinet::Answer;
+use cabinet::Cabinet;
+use libc::STDOUT_FILENO;
+use record::Recorded;
+use runs::Step;
+use settings::Settings;
+use settings::Verdict;
+
+// ---- what is shown
+
+fn print(text: &[u8]) {
+    io::write_all(STDOUT_FILENO, text);
+}
+
+fn show(n: u64) {
+    print(b" ");
+    io::print_decimal(STDOUT_FILENO, n);
+}
+
+fn show_verdict(v: Verdict) {
+    show(settings::number(v) as u64);
+}
+
+fn show_answer(a: Answer) {
+    let letter = runs::order_byte(a);
+    if letter == 0 {
+        show(runs::number_byte(a) as u64);
+    } else {
+        print(&[32, letter]);
+    }
+}
+
+// What a step answered, and the bench after it.
+fn shown(m: Moved) -> Bench {
+    let answer = m.answer;
+    show_answer(answer);
+    m.bench
+}
+
+// The angle, or 12.
+fn show_reading(degrees: f32) {
+    let reading = arm::to_64ths(degrees);
+    match reading {
+        Reading::Angle(k) => show(k as u64),
+        Reading::Refused => show(12),
+    }
+}
+
+// ---- settings
+
+// The settings K of document 01, with another earliest, rise rate, ahead or behind margin.
+fn settings_like(earliest: u32, rise: u32, ahead: u32, behind: u32) -> Settings {
+    Settings {
+        earliest: earliest,
+        latest: 4,
+        fall: 2880,
+        rise: rise,
+        worthwhile: 0,
+        ahead: ahead,
+        behind: behind,
+    }
+}
+
+fn settings_k() -> Settings {
+    settings_like(3, 5760, 3, 1)
+}
+
+// D for five fall rates.
+fn case_a() {
+    print(b"a");
+    show(settings::ticks_for(5760) as u64);
+    show(settings::ticks_for(2880) as u64);
+    show(settings::ticks_for(1921) as u64);
+    show(settings::ticks_for(1919) as u64);
+    show(settings::ticks_for(1) as u64);
+    print(b"\n");
+}
+
+// K, and K with E 2; with X 2; with Q 2880 and with Y 0.
+fn cases_b_c_d() {
+    print(b"b");
+    show_verdict(settings::check(settings_k()));
+    show_verdict(settings::check(settings_like(2, 5760, 3, 1)));
+    print(b"\nc");
+    show_verdict(settings::check(settings_like(3, 5760, 2, 1)));
+    print(b"\nd");
+    show_verdict(settings::check(settings_like(3, 2880, 3, 1)));
+    show_verdict(settings::check(settings_like(3, 5760, 3, 0)));
+    print(b"\n");
+}
+
+// ---- benches under K
+
+fn fresh() -> Bench {
+    let m = bench::start(settings_k());
+    m.bench
+}
+
+// The bench after a step that is taken.
+fn after(b: Bench, x: Step) -> Bench {
+    let m = runs::take(b, x);
+    m.bench
+}
+
+// Train 1 approaches at 0; the command down at 1.
+fn at_1() -> Bench {
+    let b = after(fresh(), Step::Approach(1));
+    after(b, Step::Clock(90.0))
+}
+
+fn at_2() -> Bench {
+    after(at_1(), Step::Clock(45.0))
+}
+
+fn at_3() -> Bench {
+    after(at_2(), Step::Clock(0.0))
+}
+
+// Train 1 inside at 4.
+fn inside_at_4() -> Bench {
+    let b = after(at_3(), Step::Occupy(1));
+    after(b, Step::Clock(0.0))
+}
+
+// Nothing at the last instant.
+fn at_last_instant() -> Bench {
+    let cabinet = Cabinet {
+        settings: settings_k(),
+        now: 9999999,
+        table: trains::fresh(),
+        command: Command::Up,
+    };
+    Bench {
+        cabinet: cabinet,
+        angle: 5760,
+        previous: 5760,
+    }
+}
+
+// An occupy at 2 and at 3; the clock at 4 with the train still coming.
+fn cases_e_f() {
+    print(b"e");
+    let b = shown(at_2().occupy(1));
+    let coming = after(b, Step::Clock(0.0));
+    shown(coming.occupy(1));
+    print(b"\nf");
+    let late = after(coming, Step::Clock(0.0));
+    shown(late.clock(0.0));
+    print(b"\n");
+}
+
+// Approaches of trains 0, 97 and 96.
+fn case_g() {
+    print(b"g");
+    let b = shown(fresh().approach(0));
+    let c = shown(b.approach(97));
+    shown(c.approach(96));
+    print(b"\n");
+}
+
+// The command down at 5760: 2880, and 2881; at 0: 1.
+fn cases_h_i() {
+    print(b"h");
+    shown(at_1().clock(45.0));
+    shown(at_1().clock(45.015625));
+    print(b"\ni");
+    shown(at_3().clock(0.015625));
+    print(b"\n");
+}
+
+// Train 1 inside at 4: approach of 2, leave of 1, clock; and leave of 1, approach of 2, clock.
+fn case_j() {
+    print(b"j");
+    let b = shown(inside_at_4().approach(2));
+    let c = shown(b.leave(1));
+    shown(c.clock(0.0));
+    let d = shown(inside_at_4().leave(1));
+    let e = shown(d.approach(2));
+    shown(e.clock(90.0));
+    print(b"\n");
+}
+
+// Readings; the empty text, number and line; the clock at the last instant.
+fn cases_k_l_m() {
+    print(b"k");
+    show_reading(45.015625);
+    show_reading(0.0078125);
+    show_reading(90.015625);
+    show_reading(0.0 / 0.0);
+    print(b"\nl");
+    let o = reader::read(b"");
+    let verdict = o.verdict;
+    show_verdict(verdict);
+    show(o.line as u64);
+    print(b"\nm");
+    shown(at_last_instant().clock(90.0));
+    print(b"\n");
+}
+
+// ---- the sample record
+
+fn recorded(r: Recorded, x: Step, out: &mut [u8]) -> Recorded {
+    let recorder = r.recorder;
+    recorder.take(x, out)
+}
+
+// The sample up to its command down.
+fn record_lowered(out: &mut [u8]) -> Recorded {
+    let r0 = record::start(settings_k(), out);
+    let r1 = recorded(r0, Step::Approach(1), out);
+    recorded(r1, Step::Clock(90.0), out)
+}
+
+// The sample up to its occupy.
+fn record_occupied(out: &mut [u8]) -> Recorded {
+    let r2 = record_lowered(out);
+    let r3 = recorded(r2, Step::Clock(45.0), out);
+    let r4 = recorded(r3, Step::Clock(0.0), out);
+    recorded(r4, Step::Occupy(1), out)
+}
+
+// The sample, whole, and its report: 19 lines of 15 bytes, and 3 of 19.
+fn sample() {
+    let mut text = [0u8; 285];
+    let mut lines = [0u8; 57];
+    let r5 = record_occupied(&mut text);
+    let r6 = recorded(r5, Step::Clock(0.0), &mut text);
+    let r7 = recorded(r6, Step::Leave(1), &mut text);
+    recorded(r7, Step::Clock(90.0), &mut text);
+    report::report(&text, &mut lines);
+    print(&text);
+    print(&lines);
+}
+
+fn main() {
+    case_a();
+    cases_b_c_d();
+    cases_e_f();
+    case_g();
+    cases_h_i();
+    case_j();
+    cases_k_l_m();
+    sample();
+}

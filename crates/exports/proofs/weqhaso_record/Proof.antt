@@ -1,0 +1,60 @@
+-- `exports::weqhaso_record` meets its contract: it is `record::record_run`. Assumes nothing.
+use native.Mathlib.Omega.{arith}
+use mathlib.Core.Logic.{⊎-elim, inl, inr}
+use borrow.Author.Needs.{needs}
+use Rattle.record.proofs.RunRecorded.{record-starts}
+use Rattle.exports.proofs.Laws.{record-end, record-answered}
+use Rattle.exports.proofs.weqhaso_record.Statement.{statement}
+use Rattle.exports.proofs.weqhaso_record.Tie as tie
+
+settings-of-requires : tie.Need-settings-of-requires
+settings-of-requires c κs = search needs
+
+record-run-requires : tie.Need-record-run-requires
+record-run-requires c κs = search needs
+
+number-byte-requires : tie.Need-number-byte-requires
+number-byte-requires c κs = search needs
+
+add-bytes : tie.Need-add-bytes
+add-bytes c =
+    let k = c .before .before .before .before .before .before .before .before in
+    let a = k .before .before .before .before .before .before .before .before .before in
+    let end = record-end _ _ _ _ _ _ _ _ (λ z. record-starts _ _ _ _ _ _ z) (k .record-run .ensures) _ (c .before .before .number-byte .ensures) (c .before .if1 .taken) in
+    omega (arith, end .0, end .1, a .good .1 .1 .1 .1 .1 .1 .1 .1 .1 .1 .1 .0)
+
+mul-result : tie.Need-mul-result
+mul-result c = search needs
+
+cast-result : tie.Need-cast-result
+cast-result c = search needs
+
+add-result : tie.Need-add-result
+add-result c = search needs
+
+same-length : tie.Need-same-length
+same-length c = search needs
+
+same-length-2 : tie.Need-same-length-2
+same-length-2 c = search needs
+
+returns : tie.Need-returns
+returns c =
+    let k = c .before .before .before .before .before .before .before .before in
+    record-answered _ _ _ _ _ _ _ _ (λ z. record-starts _ _ _ _ _ _ z) (rw (k .before .before .before .settings-of .ensures) at (k .record-run .ensures)) _ (c .before .before .number-byte .ensures)
+    (c .before .if1 .bytes) (⊎-elim (λ x. inl (x .0 .taken, x .2)) (λ x. inr (x .0 .left, x .1)) (c .before .if1 .came))
+
+pub weqhaso-record-spec : {M : Type 1} → statement M
+weqhaso-record-spec =
+    tie.close
+    (tie.spec
+    settings-of-requires
+    record-run-requires
+    number-byte-requires
+    add-bytes
+    mul-result
+    cast-result
+    add-result
+    same-length
+    same-length-2
+    returns)

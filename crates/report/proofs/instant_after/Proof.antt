@@ -1,0 +1,17 @@
+-- `report::instant_after` meets its contract. Assumes nothing.
+use borrow.Author.Tests.{eq-eqb, ne-eqb}
+use borrow.Author.Needs.{needs}
+use Rattle.report.proofs.instant_after.Statement.{statement}
+use Rattle.report.proofs.instant_after.Tie as tie
+
+add-result : tie.Need-add-result
+add-result c = search needs
+
+returns : tie.Need-returns
+returns c = simp (eq-eqb _ _ (c .if1 .taken))
+
+returns-2 : tie.Need-returns-2
+returns-2 c = simp (ne-eqb _ _ (c .if1 .left))
+
+pub instant-after-spec : {M : Type 1} → statement M
+instant-after-spec = tie.close (tie.spec add-result returns returns-2)
