@@ -1,7 +1,11 @@
 // The report program: `gate report` reads a record on standard input and writes its report to standard output.
 ghost use mathlib.Core.Path.{_≡_};
 ghost use Rattle.io.specs.Counts.{Counts};
+ghost use Prim.Native.Nat.{_≤_};
+ghost use lib.ListN.{length};
+ghost use Rattle.report.specs.Report.{reportOf};
 ghost use Rattle.gate.specs.Word.{isReport};
+ghost use Rattle.gate.specs.Held.{Held};
 use libc::STDERR_FILENO;
 use libc::STDIN_FILENO;
 use libc::STDOUT_FILENO;
@@ -59,11 +63,19 @@ fn asks_report() -> bool {
     named & (os::arg_count() == 2)
 }
 
-// The report of a text, on standard output. 83,000 bytes hold 19 for each stretch that 4,360 lines can have, and the line Z.
+// The report of a text, at the start of a buffer that holds every report: how many bytes it has.
+fn make_report(text: &[u8], out: &mut [u8]) -> usize
+    requires { ⌜ 166000 ≤ length (now out) ⌝ }
+    ensures { λ r. ⌜ Held r (reportOf (now (text .entry))) (now (out .exit)) ⌝ }
+{
+    let r = report::report(text, out);
+    r.bytes
+}
+
+// The report of a text, on standard output.
 fn write_report(text: &[u8]) {
-    let mut out = [0u8; 83000];
-    let r = report::report(text, &mut out);
-    let n = r.bytes;
+    let mut out = [0u8; 166000];
+    let n = make_report(text, &mut out);
     if !io::write_all(STDOUT_FILENO, &out[..n]) {
         os::fail(b"gate: standard output");
     }

@@ -8,3 +8,4 @@ pub mod Merged
 pub mod Answers
 pub mod Texts
 pub mod Cases
+pub mod Bounds

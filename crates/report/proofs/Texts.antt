@@ -41,7 +41,7 @@ scans-few (suc fuel) s = go (ltb (length s) 15) (starts lastLine s) (isStep (sca
     go false false true e h = let l = ltb-false (length s) 15 e in omega arith
     go false false false e h = omega arith
 
-pub steps-few : (t : List ℕ) → length t ≤ 65535 → length (textScans t) ≤ 4369
+pub steps-few : (t : List ℕ) → length t ≤ 65535 → length (textScans t) ≤ 4361
 unfolding textScans
 steps-few t h = let k = rw (length-drop 120 t) at (scans-few (length t) (drop 120 t)) in omega arith
 
@@ -128,7 +128,7 @@ module _ (t letters numbers la na : List ℕ) (o : Outcome) (few : length t ≤ 
     run-read = rw (letters-held, numbers-held) (held-scans (textScans t))
 
     pub steps-within : o .steps ≤ 4369
-    steps-within = rw steps (steps-few t few)
+    steps-within = rw steps (omega (arith, steps-few t few))
 
     -- they hold an accepted run
     pub run-held : HeldRun (take (o .steps) la) (take (o .steps) na) (heldSteps (take (o .steps) la) (take (o .steps) na))
