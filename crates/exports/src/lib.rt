@@ -1,12 +1,22 @@
 // The static library: what C or Rust programs call, over numbers and lent slices.
 ghost use mathlib.Core.Path.{_≡_};
+ghost use mathlib.Core.Bool.{not};
+ghost use Prim.Native.Nat.{_≤_};
 ghost use lib.ListN.{length};
-ghost use Rattle.runs.specs.Run.{stepsOf, runRefusal};
+ghost use Rattle.settings.specs.Refusal.{refuse};
+ghost use Rattle.settings.specs.Settings.{settingsRefusal};
+ghost use Rattle.trains.specs.Trains.{since};
+ghost use Rattle.runs.specs.Run.{stepsOf, allSteps, over, orElse, runRefusal};
 ghost use Rattle.record.specs.RunRecorded.{recordRefusal};
 ghost use Rattle.reader.specs.Read.{readText};
 ghost use Rattle.report.specs.Report.{reportOf};
 ghost use Rattle.exports.specs.Exports.{settingsOf, Answered, RecordAnswered, packed, Reports};
+ghost use Rattle.exports.specs.State.{commandNumber, standingNumber, benchNumbers, stateRefusal, StateAnswered};
+use arm::Command;
+use bench::Bench;
 use settings::Settings;
+use settings::Verdict;
+use trains::Standing;
 
 fn settings_of(e: u32, f: u32, p: u32, q: u32, w: u32, x: u32, y: u32) -> Settings
     ensures { λ r. ⌜ r ≡ settingsOf e f p q w x y ⌝ }
@@ -47,6 +57,105 @@ pub extern "C" fn weqhaso_run(
     let r = runs::run(s, letters, numbers, readings, answers, orders);
     let v = r.verdict;
     settings::number(v)
+}
+
+// 0 up, 1 down.
+fn command_number(command: Command) -> u32
+    ensures { λ r. ⌜ r ≡ commandNumber command ⌝ }
+{
+    match command {
+        Command::Up => 0,
+        Command::Down => 1,
+    }
+}
+
+// 0 away, 1 coming, 2 inside.
+fn standing_number(standing: Standing) -> u32
+    ensures { λ r. ⌜ r ≡ standingNumber standing ⌝ }
+{
+    match standing {
+        Standing::Away => 0,
+        Standing::Coming(_) => 1,
+        Standing::Inside(_) => 2,
+    }
+}
+
+// The instant of a train's approach, 0 where it is away.
+fn approach_of(standing: Standing) -> u32
+    ensures { λ r. ⌜ r ≡ since standing ⌝ }
+{
+    match standing {
+        Standing::Away => 0,
+        Standing::Coming(a) => a,
+        Standing::Inside(a) => a,
+    }
+}
+
+// The bench by numbers: instant, angle, angle before and command, then the standing of each train and the instant of its approach.
+fn write_bench(b: Bench, state: &mut [u32])
+    requires { ⌜ 196 ≤ length (now state) ⌝ }
+    ensures { λ _. ⌜ now (state .exit) ≡ over (benchNumbers b) (now (state .entry)) ⌝ }
+{
+    let c = b.cabinet;
+    let command = c.command;
+    state[0] = c.now;
+    state[1] = b.angle as u32;
+    state[2] = b.previous as u32;
+    state[3] = command_number(command);
+    let mut n: u32 = 1;
+    let mut i: usize = 4;
+    while n <= 96 {
+        let standing = c.table.standing_of(n);
+        state[i] = standing_number(standing);
+        state[i + 1] = approach_of(standing);
+        n = n + 1;
+        i = i + 2;
+    }
+}
+
+// The number that refuses a run where the bench has too few places: the settings' own, 15 for a letter that stands for no step, or 14.
+fn no_places(s: Settings, letters: &[u8]) -> u8
+    ensures { λ k. ⌜ k ≡ orElse (settingsRefusal s) (refuse (not (allSteps (now (letters .entry)))) 15 14) ⌝ }
+{
+    match settings::check(s) {
+        Verdict::Taken => { if runs::all_steps(letters) { 14 } else { 15 } }
+        Verdict::Refused(k) => k,
+    }
+}
+
+// A run as `weqhaso_run` does it, and the bench after it in the first 196 places of `state`: instant, angle, angle before, command (0 up, 1 down),
+// then for each train 1 to 96 its standing (0 away, 1 coming, 2 inside) and the instant of its approach. 14 last, where there are fewer places.
+#[no_mangle]
+pub extern "C" fn weqhaso_state(
+    e: u32,
+    f: u32,
+    p: u32,
+    q: u32,
+    w: u32,
+    x: u32,
+    y: u32,
+    letters: &[u8],
+    numbers: &[u32],
+    readings: &[f32],
+    answers: &mut [u8],
+    orders: &mut [u8],
+    state: &mut [u32],
+) -> u8
+    ensures { λ r. ⌜ StateAnswered (settingsOf e f p q w x y) (stepsOf (now (letters .entry)) (now (numbers .entry)) (now (readings .entry)))
+        (stateRefusal (settingsOf e f p q w x y) (now (letters .entry)) (length (now (numbers .entry))) (length (now (readings .entry))) (length (now (answers .entry))) (length (now (orders .entry))) (length (now (state .entry))))
+        r (now (answers .entry)) (now (answers .exit)) (now (orders .entry)) (now (orders .exit)) (now (state .entry)) (now (state .exit)) ⌝ }
+{
+    let s = settings_of(e, f, p, q, w, x, y);
+    if state.len() < 196 {
+        return no_places(s, letters);
+    }
+    let r = runs::run(s, letters, numbers, readings, answers, orders);
+    let v = r.verdict;
+    let k = settings::number(v);
+    if k == 0 {
+        write_bench(r.bench, state);
+    }
+    k
 }
 
 // A recorder under the settings, taken through a list of steps in the lent record (`record::record_run`): 256 times the bytes of the record,

@@ -1,0 +1,52 @@
+-- The bench after a list of steps, by numbers: instant, angle, angle before and command, then two numbers for each train. Assumes nothing.
+use Prim.Native.Nat.{ℕ, zero, suc, _+_}
+use mathlib.Core.Path.{_≡_}
+use mathlib.Core.List.{List, [], _∷_}
+use lib.Dec.{ltb}
+use Rattle.settings.specs.declared.Settings.{Settings}
+use Rattle.settings.specs.Refusal.{refuse}
+use Rattle.arm.specs.declared.Command.{Command}
+use Rattle.arm.specs.declared.Command.the-variants.{Up, Down}
+use Rattle.trains.specs.declared.Standing.{Standing}
+use Rattle.trains.specs.declared.Standing.the-variants.{Away, Coming, Inside}
+use Rattle.trains.specs.declared.Table.{Table}
+use Rattle.trains.specs.Trains.{since}
+use Rattle.trains.specs.Table.{standingOf}
+use Rattle.bench.specs.declared.Bench.{Bench}
+use Rattle.bench.specs.Bench.{freshBench}
+use Rattle.runs.specs.declared.Step.{Step}
+use Rattle.runs.specs.Steps.{benchAfter}
+use Rattle.runs.specs.Run.{orElse, runRefusal, written}
+use Rattle.exports.specs.Exports.{Answered}
+
+-- 0 up, 1 down
+abbrev pub commandNumber : Command → ℕ
+commandNumber Up = 0
+commandNumber Down = 1
+
+-- 0 away, 1 coming, 2 inside
+abbrev pub standingNumber : Standing → ℕ
+standingNumber Away = 0
+standingNumber (Coming a) = 1
+standingNumber (Inside a) = 2
+
+-- the standing and the instant of approach, 0 where away, of train n and those after it, so many of them
+unfoldable pub trainNumbers : Table → ℕ → ℕ → List ℕ
+trainNumbers t n zero = []
+trainNumbers t n (suc many) = standingNumber (standingOf t n) ∷ since (standingOf t n) ∷ trainNumbers t (n + 1) many
+
+-- the 196 numbers of a bench
+unfoldable pub benchNumbers : Bench → List ℕ
+benchNumbers b = b .cabinet .now ∷ b .angle ∷ b .previous ∷ commandNumber (b .cabinet .command) ∷ trainNumbers (b .cabinet .table) 1 96
+
+-- the number that refuses a run whose bench is written: the run's own, or 14 last, fewer than 196 places for the bench
+unfoldable pub stateRefusal : Settings → List ℕ → ℕ → ℕ → ℕ → ℕ → ℕ → ℕ
+stateRefusal s letters numbers readings answers orders places =
+    orElse (runRefusal s letters numbers readings answers orders)
+    (refuse (ltb places 196) 14
+    0)
+
+-- a run of a list xs with this refusal number, and the bench after it written
+pub record StateAnswered (s : Settings) (xs : List Step) (k r : ℕ) (answers answersAfter orders ordersAfter state stateAfter : List ℕ) : Type 0 where
+  pub run : Answered s xs k r answers answersAfter orders ordersAfter
+  pub numbers : stateAfter ≡ written k (benchNumbers (benchAfter (freshBench s) xs)) state
