@@ -1,26 +1,25 @@
 -- The bench written by numbers, train after train; and what refuses a run whose bench is written. Assumes nothing.
 use Prim.Native.Nat.{ℕ, zero, suc, _+_, _*_, _-_, _≤_, _<_}
 use native.Mathlib.Omega.{arith}
-use mathlib.Core.Path.{_≡_, refl, sym, _∙_}
-use mathlib.Core.Bool.{Bool, true, false, not}
+use mathlib.Core.Path.{_≡_, refl, sym, ap, _∙_}
+use mathlib.Core.Bool.{Bool, true, not}
 use mathlib.Core.List.{List, _∷_}
-use borrow.Author.Tests.{lt-ltb, le-ltb}
+use borrow.Author.Tests.{not-false}
 use lib.ListN.{length, set, length-set}
 use Rattle.trains.specs.declared.Table.{Table}
 use Rattle.trains.specs.Trains.{since}
 use Rattle.trains.specs.Table.{standingOf}
 use Rattle.settings.specs.declared.Settings.{Settings}
 use Rattle.settings.specs.Refusal.{refuse}
-use Rattle.settings.specs.Settings.{settingsRefusal, numberOf}
+use Rattle.settings.proofs.Laws.{refuse-none}
 use Rattle.bench.specs.Bench.{freshBench}
 use Rattle.runs.specs.declared.Step.{Step}
 use Rattle.runs.specs.declared.Finished.{Finished}
 use Rattle.runs.specs.Steps.{benchAfter}
-use Rattle.runs.specs.Run.{allSteps, over, orElse, fits, runRefusal, finishedBy, written, Ran}
+use Rattle.runs.specs.Run.{over, orFull, finishedBy, Ran}
+use Rattle.runs.proofs.Running.{none-first}
 use Rattle.runs.proofs.Slices.{Filled, filled-none, filled-next, filled-all}
-use Rattle.exports.specs.Exports.{Answered}
-use Rattle.exports.specs.State.{standingNumber, trainNumbers, benchNumbers, stateRefusal, StateAnswered}
-use Rattle.exports.proofs.Laws.{answered-run}
+use Rattle.exports.specs.State.{standingNumber, trainNumbers, benchNumbers, StateAnswered}
 
 -- the first four places
 pub four-filled : (old rest : List ℕ) (a b c d : ℕ) → 196 ≤ length old → Filled old (set (set (set (set old 0 a) 1 b) 2 c) 3 d) 4 rest (a ∷ b ∷ c ∷ d ∷ rest)
@@ -75,68 +74,33 @@ module _ (t : Table) (state₀ : List ℕ) where
         let e : 97 - n ≡ 0 = omega arith in
         filled-all old state i whole (omega (arith, w .place, w .high, w .same-length)) (rw e at (w .filled old whole f))
 
--- ---- the refusal number
+-- ---- a run, and its bench written
 
--- 14 comes last, so that it does not matter which places are too few
-fourteen-last : (x : ℕ) (b f : Bool) → orElse (orElse x (refuse (not b) 15 (refuse (not f) 14 0))) 14 ≡ orElse x (refuse (not b) 15 14)
-fourteen-last zero true true = refl
-fourteen-last zero true false = refl
-fourteen-last zero false f = refl
-fourteen-last (suc k) b f = refl
+module _ (s : Settings) (xs : List Step) (own : ℕ) (places : Bool) (k : ℕ) (e : k ≡ orFull own places) (answers orders state : List ℕ) where
+  -- refused, nothing is written
+  pub state-refused : (k ≡ 0 → ⊥) → StateAnswered s xs (orFull own places) k answers answers orders orders state state
+  state-refused n = rw (← e) (go k n)
+    where
+      go : (k : ℕ) → (k ≡ 0 → ⊥) → StateAnswered s xs k k answers answers orders orders state state
+      go zero n = absurd (n refl)
+      go (suc k) n = record { run = record { number = refl; answered = refl; ordered = refl; demand = λ z. absurd (n z) }; numbers = refl }
 
-some-refusal : (x : ℕ) (b : Bool) → orElse x (refuse (not b) 15 14) ≡ 0 → ⊥
-some-refusal zero true = λ z. omega arith
-some-refusal zero false = λ z. omega arith
-some-refusal (suc k) b = λ z. omega arith
+  module _ (z : k ≡ 0) where
+    passed : (own ≡ 0) × (refuse (not places) 14 0 ≡ 0)
+    passed = none-first own _ (sym e ∙ z)
 
-none-last : (x : ℕ) → orElse x 0 ≡ x
-none-last zero = refl
-none-last (suc k) = refl
+    -- there are places for the bench
+    pub places-there : places ≡ true
+    places-there = not-false _ (refuse-none (not places) 13 (passed .1) .0)
 
--- nothing is written
-untouched : (s : Settings) (xs : List Step) (k : ℕ) (answers orders state : List ℕ) → (k ≡ 0 → ⊥) → StateAnswered s xs k k answers answers orders orders state state
-untouched s xs zero answers orders state n = absurd (n refl)
-untouched s xs (suc k) answers orders state n =
-    record { run = record { number = refl; answered = refl; ordered = refl; demand = λ z. absurd (n z) }; numbers = refl }
-
--- too few places for the bench
-pub no-places-answered : (s : Settings) (xs : List Step) (letters : List ℕ) (numbers readings m l : ℕ) (answers orders state : List ℕ) → length state < 196 →
-    (k : ℕ) → k ≡ orElse (settingsRefusal s) (refuse (not (allSteps letters)) 15 14) →
-    StateAnswered s xs (stateRefusal s letters numbers readings m l (length state)) k answers answers orders orders state state
-unfolding stateRefusal runRefusal
-no-places-answered s xs letters numbers readings m l answers orders state h k e =
-    rw (lt-ltb _ _ h, fourteen-last (settingsRefusal s) (allSteps letters) (fits (length letters) numbers readings m l), ← e)
-    (untouched s xs k answers orders state (λ z. some-refusal (settingsRefusal s) (allSteps letters) (sym e ∙ z)))
-
-module _ (s : Settings) (xs : List Step) (letters : List ℕ) (numbers readings m l : ℕ) (answers answersAfter orders ordersAfter state : List ℕ) where
-  -- enough places for the bench: the run's own refusal number
-  run-number : 196 ≤ length state → stateRefusal s letters numbers readings m l (length state) ≡ runRefusal s letters numbers readings m l
-  unfolding stateRefusal
-  run-number h = rw (le-ltb _ _ h) (none-last (runRefusal s letters numbers readings m l))
-
-  module _ (h : 196 ≤ length state) (r : Finished) (ran : Ran s xs (runRefusal s letters numbers readings m l) r answers answersAfter orders ordersAfter) (n : ℕ) (e : n ≡ numberOf (r .verdict)) where
-    run-answered : Answered s xs (runRefusal s letters numbers readings m l) n answers answersAfter orders ordersAfter
-    run-answered = answered-run s xs (runRefusal s letters numbers readings m l) r answers answersAfter orders ordersAfter n ran e
-
-    -- a run that is taken, and its bench written
-    pub taken-answered : (stateAfter : List ℕ) → n ≡ 0 → stateAfter ≡ over (benchNumbers (r .bench)) state →
-        StateAnswered s xs (stateRefusal s letters numbers readings m l (length state)) n answers answersAfter orders ordersAfter state stateAfter
-    taken-answered stateAfter z w =
-        rw (run-number h)
+    -- taken, the bench after the list is written
+    pub state-taken : (r : Finished) (answersAfter ordersAfter stateAfter : List ℕ) → Ran s xs own r answers answersAfter orders ordersAfter →
+        stateAfter ≡ over (benchNumbers (r .bench)) state → StateAnswered s xs (orFull own places) k answers answersAfter orders ordersAfter state stateAfter
+    state-taken r answersAfter ordersAfter stateAfter ran w =
+        let f : r ≡ finishedBy 0 s xs = rw (passed .0) at (ran .finished) in
+        let bench : stateAfter ≡ over (benchNumbers (benchAfter (freshBench s) xs)) state = w ∙ ap (λ (x : Finished). over (benchNumbers (x .bench)) state) f in
+        rw (← e, z)
         (record {
-          run = run-answered;
-          numbers = w ∙ bench-written (runRefusal s letters numbers readings m l) (sym (run-answered .number) ∙ z) (ran .finished);
+          run = record { number = refl; answered = rw (passed .0) at (ran .answered); ordered = rw (passed .0) at (ran .ordered); demand = λ q. ran .demand (passed .0) };
+          numbers = bench;
         })
-      where
-        bench-written : (k : ℕ) → k ≡ 0 → r ≡ finishedBy k s xs → over (benchNumbers (r .bench)) state ≡ written k (benchNumbers (benchAfter (freshBench s) xs)) state
-        bench-written k z f = rw (f, z) refl
-
-    -- a run that is refused
-    pub refused-answered : (n ≡ 0 → ⊥) →
-        StateAnswered s xs (stateRefusal s letters numbers readings m l (length state)) n answers answersAfter orders ordersAfter state state
-    refused-answered f =
-        rw (run-number h) (record { run = run-answered; numbers = none-written (runRefusal s letters numbers readings m l) (λ z. f (run-answered .number ∙ z)) })
-      where
-        none-written : (k : ℕ) → (k ≡ 0 → ⊥) → state ≡ written k (benchNumbers (benchAfter (freshBench s) xs)) state
-        none-written zero n = absurd (n refl)
-        none-written (suc k) n = refl

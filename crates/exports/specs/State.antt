@@ -2,9 +2,8 @@
 use Prim.Native.Nat.{ℕ, zero, suc, _+_}
 use mathlib.Core.Path.{_≡_}
 use mathlib.Core.List.{List, [], _∷_}
-use lib.Dec.{ltb}
+use lib.Dec.{leb}
 use Rattle.settings.specs.declared.Settings.{Settings}
-use Rattle.settings.specs.Refusal.{refuse}
 use Rattle.arm.specs.declared.Command.{Command}
 use Rattle.arm.specs.declared.Command.the-variants.{Up, Down}
 use Rattle.trains.specs.declared.Standing.{Standing}
@@ -16,7 +15,7 @@ use Rattle.bench.specs.declared.Bench.{Bench}
 use Rattle.bench.specs.Bench.{freshBench}
 use Rattle.runs.specs.declared.Step.{Step}
 use Rattle.runs.specs.Steps.{benchAfter}
-use Rattle.runs.specs.Run.{orElse, runRefusal, written}
+use Rattle.runs.specs.Run.{orFull, runRefusal, written}
 use Rattle.exports.specs.Exports.{Answered}
 
 -- 0 up, 1 down
@@ -41,10 +40,7 @@ benchNumbers b = b .cabinet .now ∷ b .angle ∷ b .previous ∷ commandNumber 
 
 -- the number that refuses a run whose bench is written: the run's own, or 14 last, fewer than 196 places for the bench
 unfoldable pub stateRefusal : Settings → List ℕ → ℕ → ℕ → ℕ → ℕ → ℕ → ℕ
-stateRefusal s letters numbers readings answers orders places =
-    orElse (runRefusal s letters numbers readings answers orders)
-    (refuse (ltb places 196) 14
-    0)
+stateRefusal s letters numbers readings answers orders places = orFull (runRefusal s letters numbers readings answers orders) (leb 196 places)
 
 -- a run of a list xs with this refusal number, and the bench after it written
 pub record StateAnswered (s : Settings) (xs : List Step) (k r : ℕ) (answers answersAfter orders ordersAfter state stateAfter : List ℕ) : Type 0 where

@@ -1,12 +1,9 @@
 // The static library: what C or Rust programs call, over numbers and lent slices.
 ghost use mathlib.Core.Path.{_≡_};
-ghost use mathlib.Core.Bool.{not};
 ghost use Prim.Native.Nat.{_≤_};
 ghost use lib.ListN.{length};
-ghost use Rattle.settings.specs.Refusal.{refuse};
-ghost use Rattle.settings.specs.Settings.{settingsRefusal};
 ghost use Rattle.trains.specs.Trains.{since};
-ghost use Rattle.runs.specs.Run.{stepsOf, allSteps, over, orElse, runRefusal};
+ghost use Rattle.runs.specs.Run.{stepsOf, over, runRefusal};
 ghost use Rattle.record.specs.RunRecorded.{recordRefusal};
 ghost use Rattle.reader.specs.Read.{readText};
 ghost use Rattle.report.specs.Report.{reportOf};
@@ -15,7 +12,6 @@ ghost use Rattle.exports.specs.State.{commandNumber, standingNumber, ben
 use arm::Command;
 use bench::Bench;
 use settings::Settings;
-use settings::Verdict;
 use trains::Standing;
 
 fn settings_of(e: u32, f: u32, p: u32, q: u32, w: u32, x: u32, y: u32) -> Settings
@@ -113,16 +109,6 @@ fn write_bench(b: Bench, state: &mut [u32])
     }
 }
 
-// The number that refuses a run where the bench has too few places: the settings' own, 15 for a letter that stands for no step, or 14.
-fn no_places(s: Settings, letters: &[u8]) -> u8
-    ensures { λ k. ⌜ k ≡ orElse (settingsRefusal s) (refuse (not (allSteps (now (letters .entry)))) 15 14) ⌝ }
-{
-    match settings::check(s) {
-        Verdict::Taken => { if runs::all_steps(letters) { 14 } else { 15 } }
-        Verdict::Refused(k) => k,
-    }
-}
-
 // A run as `weqhaso_run` does it, and the bench after it in the first 196 places of `state`: instant, angle, angle before, command (0 up, 1 down),
 // then for each train 1 to 96 its standing (0 away, 1 coming, 2 inside) and the instant of its approach. 14 last, where there are fewer places.
 #[no_mangle]
@@ -146,13 +132,17 @@ pub extern "C" fn weqhaso_state(
         r (now (answers .entry)) (now (answers .exit)) (now (orders .entry)) (now (orders .exit)) (now (state .entry)) (now (state .exit)) ⌝ }
 {
     let s = settings_of(e, f, p, q, w, x, y);
-    if state.len() < 196 {
-        return no_places(s, letters);
-    }
-    let r = runs::run(s, letters, numbers, readings, answers, orders);
-    let v = r.verdict;
-    let k = settings::number(v);
+    let own = runs::run_refusal(
+        s,
+        letters,
+        numbers.len(),
+        readings.len(),
+        answers.len(),
+        orders.len(),
+    );
+    let k = runs::or_full(own, 196 <= state.len());
     if k == 0 {
+        let r = runs::run(s, letters, numbers, readings, answers, orders);
         write_bench(r.bench, state);
     }
     k
