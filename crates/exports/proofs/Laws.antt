@@ -1,4 +1,4 @@
--- What the contracts of `runs::run`, `record::record_run` and `report::report` say by the number of their answers. Assumes nothing.
+-- What the contracts of `runs::run`, `recording::record_run` and `report::report` say by the number of their answers. Assumes nothing.
 use Prim.Native.Nat.{ℕ, zero, suc, _+_, _≤_}
 use native.Mathlib.Omega.{arith}
 use mathlib.Core.Path.{_≡_, refl, sym, ap, _∙_}
@@ -18,7 +18,7 @@ use Rattle.record.specs.declared.Recorded.{Recorded}
 use Rattle.record.specs.Text.{text}
 use Rattle.record.specs.Recorder.{startAnswer}
 use Rattle.record.specs.Recording.{begun, recordedAfter, runSoFar}
-use Rattle.record.specs.RunRecorded.{recordedRun, recordedBytes, RunRecorded}
+use Rattle.recording.specs.RunRecorded.{recordedRun, recordedBytes, RunRecorded}
 use Rattle.record.proofs.Recording.{keeps-always, ends-always}
 use Rattle.lines.specs.Bytes.{fits}
 use Rattle.report.specs.declared.Reported.{Reported}

@@ -11,8 +11,7 @@ use Rattle.runs.specs.History as rules
 use Rattle.runs.specs.Run.{written, orderLetter}
 use Rattle.runs.specs.Demand.{Demand3}
 use Rattle.record.specs.Text.{text}
-use Rattle.record.specs.Recording.{runSoFar}
-use Rattle.record.specs.RunRecorded.{recordVerdicts}
+use Rattle.record.specs.Recording.{recordVerdicts, runSoFar}
 use Rattle.lines.specs.Bytes.{fits, splice}
 use Rattle.reader.specs.declared.Outcome.{Outcome}
 

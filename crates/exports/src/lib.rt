@@ -4,7 +4,7 @@ ghost use Prim.Native.Nat.{_≤_};
 ghost use lib.ListN.{length};
 ghost use Rattle.trains.specs.Trains.{since};
 ghost use Rattle.runs.specs.Run.{stepsOf, over, runRefusal};
-ghost use Rattle.record.specs.RunRecorded.{recordRefusal};
+ghost use Rattle.recording.specs.RunRecorded.{recordRefusal};
 ghost use Rattle.reader.specs.Read.{readText};
 ghost use Rattle.report.specs.Report.{reportOf};
 ghost use Rattle.exports.specs.Exports.{settingsOf, Answered, RecordAnswered, packed, Reports};
@@ -148,7 +148,7 @@ pub extern "C" fn weqhaso_state(
     k
 }
 
-// A recorder under the settings, taken through a list of steps in the lent record (`record::record_run`): 256 times the bytes of the record,
+// A recorder under the settings, taken through a list of steps in the lent record (`recording::record_run`): 256 times the bytes of the record,
 // up to the end of its last line, and the refusal number of the whole; each step's refusal number is written beside it.
 #[no_mangle]
 pub extern "C" fn weqhaso_record(
@@ -170,7 +170,7 @@ pub extern "C" fn weqhaso_record(
         r (now (answers .entry)) (now (answers .exit)) (now (out .entry)) (now (out .exit)) ⌝ }
 {
     let s = settings_of(e, f, p, q, w, x, y);
-    let r = record::record_run(s, letters, numbers, readings, answers, out);
+    let r = recording::record_run(s, letters, numbers, readings, answers, out);
     let answer = r.answer;
     let recorder = r.recorder;
     let k = runs::number_byte(answer);

@@ -1,8 +1,8 @@
--- `exports::weqhaso_record` meets its contract: it is `record::record_run`. Assumes nothing.
+-- `exports::weqhaso_record` meets its contract: it is `recording::record_run`. Assumes nothing.
 use native.Mathlib.Omega.{arith}
 use mathlib.Core.Logic.{⊎-elim, inl, inr}
 use borrow.Author.Needs.{needs}
-use Rattle.record.proofs.RunRecorded.{record-starts}
+use Rattle.recording.proofs.RunRecorded.{record-starts}
 use Rattle.exports.proofs.Laws.{record-end, record-answered}
 use Rattle.exports.proofs.weqhaso_record.Statement.{statement}
 use Rattle.exports.proofs.weqhaso_record.Tie as tie
