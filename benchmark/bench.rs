@@ -3,11 +3,7 @@
 //
 //   bench                  both sides answer alike on every input, or it fails; then the times
 //   bench once SIDE INPUT  one side (ours, rust, or none: the input is only made) on one input (1, 8, 96, record), for callgrind
-//
-// Built with --cfg report where the library has `weqhaso_report`; without it, `weqhaso_read` and a plain reading take its place.
 
-// `read` stands in for `report`
-#[allow(dead_code)]
 mod inplace;
 
 use inplace::{Bench, Standing, FIRST_LINE, FULL, LAST_LINE, LINE, LONGEST};
@@ -34,9 +30,6 @@ extern "C" {
         orders: *mut u8,
         orders_len: usize,
     ) -> u8;
-    #[cfg(not(report))]
-    fn weqhaso_read(text: *const u8, len: usize) -> u64;
-    #[cfg(report)]
     fn weqhaso_report(text: *const u8, len: usize, out: *mut u8, out_len: usize) -> u64;
 }
 
@@ -242,36 +235,15 @@ fn record() -> Vec<u8> {
     text
 }
 
-#[cfg(report)]
-mod sides {
-    pub const WHAT: &str = "records read and reported";
-
-    pub fn ours(text: &[u8], out: &mut [u8]) -> u64 {
-        unsafe { super::weqhaso_report(text.as_ptr(), text.len(), out.as_mut_ptr(), out.len()) }
-    }
-
-    pub fn rust(text: &[u8], out: &mut [u8]) -> u64 {
-        super::inplace::report(text, out)
-    }
-}
-
-#[cfg(not(report))]
-mod sides {
-    pub const WHAT: &str = "records read (the library has no weqhaso_report yet)";
-
-    pub fn ours(text: &[u8], _out: &mut [u8]) -> u64 {
-        unsafe { super::weqhaso_read(text.as_ptr(), text.len()) }
-    }
-
-    pub fn rust(text: &[u8], _out: &mut [u8]) -> u64 {
-        super::inplace::read(text)
-    }
+// Our report of a text, as the library packs its answer; the Rust side's is `inplace::report`.
+fn our_report(text: &[u8], out: &mut [u8]) -> u64 {
+    unsafe { weqhaso_report(text.as_ptr(), text.len(), out.as_mut_ptr(), out.len()) }
 }
 
 // Whether both sides answer a text alike, with so long a buffer, and leave the same bytes in it.
 fn same_report(text: &[u8], len: usize) -> bool {
     let (mut a, mut b) = (vec![99; len], vec![99; len]);
-    sides::ours(text, &mut a) == sides::rust(text, &mut b) && a == b
+    our_report(text, &mut a) == inplace::report(text, &mut b) && a == b
 }
 
 // The whole record, buffers that are just long enough and one byte short, and damaged records.
@@ -300,7 +272,7 @@ fn check_same_reports(text: &[u8]) {
     }
     let mut long = text.to_vec();
     long.resize(LONGEST + 1, 10);
-    assert!(!cfg!(report) || same_report(&long, 19), "reports of too long a text differ");
+    assert!(same_report(&long, 19), "reports of too long a text differ");
 }
 
 // The seconds of one call; its answer is kept from the optimiser.
@@ -341,7 +313,7 @@ fn measure() {
     for (many, list) in &lists {
         println!("  {}", list.mix(*many));
     }
-    println!("A record of {} bytes, whose report has {} lines; {}.", text.len(), bytes / 19, sides::WHAT);
+    println!("A record of {} bytes, whose report has {} lines; records read and reported.", text.len(), bytes / 19);
     println!("\n{:<26}{:>14}{:>14}{:>12}", "a second, median", "ours", "Rust", "time ratio");
     for (many, list) in lists {
         let list = std::cell::RefCell::new(list);
@@ -353,8 +325,8 @@ fn measure() {
     }
     let (mut mine, mut theirs) = (out.clone(), out);
     let times = medians(
-        || seconds(|| for _ in 0..RECORDS_A_ROUND { black_box(sides::ours(black_box(&text), &mut mine)); }),
-        || seconds(|| for _ in 0..RECORDS_A_ROUND { black_box(sides::rust(black_box(&text), &mut theirs)); }),
+        || seconds(|| for _ in 0..RECORDS_A_ROUND { black_box(our_report(black_box(&text), &mut mine)); }),
+        || seconds(|| for _ in 0..RECORDS_A_ROUND { black_box(inplace::report(black_box(&text), &mut theirs)); }),
     );
     print_times("records", RECORDS_A_ROUND, times);
 }
@@ -364,8 +336,8 @@ fn once(side: &str, input: &str) {
     if input == "record" {
         let (text, mut out) = (record(), vec![0; LONGEST]);
         match side {
-            "ours" => black_box(sides::ours(black_box(&text), &mut out)),
-            "rust" => black_box(sides::rust(black_box(&text), &mut out)),
+            "ours" => black_box(our_report(black_box(&text), &mut out)),
+            "rust" => black_box(inplace::report(black_box(&text), &mut out)),
             _ => 0,
         };
         return;

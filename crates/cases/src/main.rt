@@ -7,7 +7,6 @@ use bench::Moved;
 use cabinet::Answer;
 use cabinet::Cabinet;
 use libc::STDOUT_FILENO;
-use record::Recorded;
 use runs::Step;
 use settings::Settings;
 use settings::Verdict;
@@ -205,34 +204,19 @@ fn cases_k_l_m() {
 
 // ---- the sample record
 
-fn recorded(r: Recorded, x: Step, out: &mut [u8]) -> Recorded {
-    let recorder = r.recorder;
-    recorder.take(x, out)
-}
-
-// The sample up to its command down.
-fn record_lowered(out: &mut [u8]) -> Recorded {
-    let r0 = record::start(settings_k(), out);
-    let r1 = recorded(r0, Step::Approach(1), out);
-    recorded(r1, Step::Clock(90.0), out)
-}
-
-// The sample up to its occupy.
-fn record_occupied(out: &mut [u8]) -> Recorded {
-    let r2 = record_lowered(out);
-    let r3 = recorded(r2, Step::Clock(45.0), out);
-    let r4 = recorded(r3, Step::Clock(0.0), out);
-    recorded(r4, Step::Occupy(1), out)
-}
-
 // The sample, whole, and its report: 19 lines of 15 bytes, and 3 of 19.
 fn sample() {
+    let mut answers = [0u8; 8];
     let mut text = [0u8; 285];
     let mut lines = [0u8; 57];
-    let r5 = record_occupied(&mut text);
-    let r6 = recorded(r5, Step::Clock(0.0), &mut text);
-    let r7 = recorded(r6, Step::Leave(1), &mut text);
-    recorded(r7, Step::Clock(90.0), &mut text);
+    recording::record_run(
+        settings_k(),
+        b"ATTTOTLT",
+        &[1u32, 0, 0, 0, 1, 0, 1, 0],
+        &[0.0f32, 90.0, 45.0, 0.0, 0.0, 0.0, 0.0, 90.0],
+        &mut answers,
+        &mut text,
+    );
     report::report(&text, &mut lines);
     print(&text);
     print(&lines);

@@ -1,4 +1,4 @@
--- What the functions of the static library give: those of `runs`, `record`, `reader` and `report`, by numbers and slices. Assumes nothing.
+-- What the functions of the static library give: those of `runs`, `recording`, `reader` and `report`, by numbers and slices. Assumes nothing.
 use Prim.Native.Nat.{ℕ, zero, suc, _+_, _*_, _%_}
 use mathlib.Core.Path.{_≡_}
 use mathlib.Core.Bool.{cond}

@@ -1,7 +1,7 @@
 -- No report is longer than 166,000 bytes. Assumes nothing.
 use Prim.Native.Nat.{ℕ, zero, suc, _+_, _*_, _≤_}
 use native.Mathlib.Omega.{arith}
-use mathlib.Core.Path.{_≡_, refl, sym, ap, _∙_}
+use mathlib.Core.Path.{_≡_, refl, ap}
 use mathlib.Core.Bool.{Bool, true, false, cond}
 use mathlib.Core.List.{List, [], _∷_, _++_}
 use lib.Dec.{leb, ltb}
@@ -12,9 +12,9 @@ use Rattle.settings.specs.declared.Verdict.the-variants.{Taken, Refused}
 use Rattle.runs.specs.declared.Step.{Step}
 use Rattle.runs.specs.History.{History, instant}
 use Rattle.reader.specs.Read.{readText}
-use Rattle.reader.specs.Round.{textScans, lineStep, runOf}
+use Rattle.reader.specs.Round.{runOf}
 use Rattle.report.specs.Stretches.{Stretch, Going, none, since, laterMoments, moments, only, beginsInstant, stretchesFrom, armBelow, someInside, lowered, occupied, below}
-use Rattle.report.specs.Report.{reportLine, stretchLetter, merged, runReport, refusalReport, reportBy, reportOf}
+use Rattle.report.specs.Report.{stretchLetter, stretchLine, merged, runReport, refusalReport, reportBy, reportOf}
 use Rattle.report.proofs.Rows.{length-row}
 use Rattle.report.proofs.Texts.{steps-few}
 
@@ -66,11 +66,8 @@ merged-few (suc fuel) (n ∷ ns) [] = rw length-append (omega (arith, length-row
 merged-few (suc fuel) [] (o ∷ os) = rw length-append (omega (arith, length-row (o .first) (o .last) (stretchLetter 79 o), merged-few fuel [] os))
 merged-few (suc fuel) (n ∷ ns) (o ∷ os) = go (leb (n .first) (o .first)) (merged-few fuel ns (o ∷ os)) (merged-few fuel (n ∷ ns) os)
   where
-    line : ℕ → Stretch → List ℕ
-    line c x = reportLine (x .first) (x .last) (stretchLetter c x)
-
     go : (b : Bool) → length (merged fuel ns (o ∷ os)) ≤ 19 * fuel → length (merged fuel (n ∷ ns) os) ≤ 19 * fuel →
-        length (cond b (line 78 n ++ merged fuel ns (o ∷ os)) (line 79 o ++ merged fuel (n ∷ ns) os)) ≤ 19 * suc fuel
+        length (cond b (stretchLine 78 n ++ merged fuel ns (o ∷ os)) (stretchLine 79 o ++ merged fuel (n ∷ ns) os)) ≤ 19 * suc fuel
     go true l m = rw length-append (omega (arith, length-row (n .first) (n .last) (stretchLetter 78 n)))
     go false l m = rw length-append (omega (arith, length-row (o .first) (o .last) (stretchLetter 79 o)))
 

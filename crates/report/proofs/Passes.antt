@@ -14,9 +14,11 @@ use Rattle.runs.specs.declared.Step.the-variants.{Approach, Occupy, Leave, Cloc
 use Rattle.runs.specs.History.{History, instant, verdict}
 use Rattle.runs.specs.Claims.{AllTaken}
 use Rattle.record.specs.Text.{stepLetter, stepNumber}
+use Rattle.reader.specs.Read.{lineInstant}
+use Rattle.reader.proofs.Steps.{step-instant}
 use Rattle.report.specs.declared.Span.{Span}
 use Rattle.report.specs.Stretches.{laterMoments, moments, only, beginsInstant, instants, armBelow, someInside, lowered, occupied, below}
-use Rattle.report.specs.Gathering.{HeldRun, Places, marked, Marked, Closed, Gathered, freshSpan, instantAfter, insideAfter}
+use Rattle.report.specs.Gathering.{HeldRun, Places, marked, Marked, Closed, Gathered, freshSpan, insideAfter}
 use Rattle.report.proofs.Inside.{insideOf, inside-none, some-inside, inside-approach, inside-occupy, inside-leave, inside-clock}
 use Rattle.report.proofs.Gather.{used, Room, Gathering, gather-start, gather-skip, gather-next, gather-end}
 
@@ -35,19 +37,13 @@ at-place (x ∷ xs) (suc i) h = let a = at-place xs i (omega arith) in record { 
 
 -- ---- what a step does to the instant and to the trains inside
 
-instant-next : (h : History) (x : Step) → instantAfter (instant h) (stepLetter x) ≡ instant (x ∷ h)
-instant-next h (Approach n) = refl
-instant-next h (Occupy n) = refl
-instant-next h (Leave n) = refl
-instant-next h (Clock r) = add-one _
-
 inside-next : (s : Settings) (h : History) (x : Step) → verdict s h x ≡ 0 → insideAfter (insideOf h) (stepLetter x) ≡ insideOf (x ∷ h)
 inside-next s h (Approach n) ok = sym (inside-approach s h n ok)
 inside-next s h (Occupy n) ok = add-one _ ∙ sym (inside-occupy s h n ok)
 inside-next s h (Leave n) ok = let e = inside-leave s h n ok in omega arith
 inside-next s h (Clock r) ok = sym (inside-clock s h r)
 
-instant-few : (now letter : ℕ) → instantAfter now letter ≤ now + 1
+instant-few : (now letter : ℕ) → lineInstant letter now ≤ now + 1
 instant-few now letter = go (eqb letter 84)
   where
     go : (b : Bool) → cond b (now + 1) now ≤ now + 1
@@ -129,7 +125,7 @@ module _ (letters numbers : List ℕ) (xs : List Step) (held : HeldRun letters n
 
   module _ (firsts lasts marks : List ℕ) (g : Span) (now inside i : ℕ) (w : Occupying firsts lasts marks g now inside i) where
     -- one step more
-    pub occupying-next : i < length letters → (f l m : List ℕ) (r : Span) (now′ inside′ : ℕ) → now′ ≡ instantAfter now (getD letters i 0) →
+    pub occupying-next : i < length letters → (f l m : List ℕ) (r : Span) (now′ inside′ : ℕ) → now′ ≡ lineInstant (getD letters i 0) now →
         inside′ ≡ insideAfter inside (getD letters i 0) → Marked g now′ (ltb 0 inside′) 79 r firsts f lasts l marks m → Occupying f l m r now′ inside′ (i + 1)
     unfolding laterMoments
     occupying-next small f l m r now′ inside′ p q k =
@@ -138,7 +134,7 @@ module _ (letters numbers : List ℕ) (xs : List Step) (held : HeldRun letters n
         let h = w .history in
         let letter : getD letters i 0 ≡ stepLetter x = ap (λ (c : List ℕ). getD c i 0) (held .byLetter) ∙ a .value stepLetter in
         let t : AllTaken (held .settings) h (x ∷ drop (i + 1) xs) = rw (a .rest) at (w .taken) in
-        let clock : now′ ≡ instant (x ∷ h) = p ∙ rw (letter, w .clock) (instant-next h x) in
+        let clock : now′ ≡ instant (x ∷ h) = p ∙ rw (letter, w .clock) (step-instant h x) in
         let count : inside′ ≡ insideOf (x ∷ h) = q ∙ rw (letter, w .count) (inside-next (held .settings) h x (t .0)) in
         let room = room-at someInside 79 (moments xs) _ firsts lasts marks g i (w .gathering) (w .few .2) (w .few .3) in
         record {

@@ -115,10 +115,6 @@ pub record Beside (ns os : Rows) (out : ℕ) : Type 0 where
 abbrev pub freshSpan : Span
 freshSpan = record { on = false; first = 0; last = 0; ended = 0 }
 
--- the instant after a step of this letter: the next one after T
-abbrev pub instantAfter : ℕ → ℕ → ℕ
-instantAfter now letter = cond (eqb letter 84) (now + 1) now
-
 -- the trains inside after a step of this letter: one more after O, one less after L
 abbrev pub insideAfter : ℕ → ℕ → ℕ
 insideAfter inside letter = cond (eqb letter 79) (inside + 1) (cond (eqb letter 76) (inside - 1) inside)

@@ -5,9 +5,10 @@ ghost use mathlib.Core.Bool.{true, cond};
 ghost use lib.Dec.{eqb};
 ghost use lib.ListN.{length};
 ghost use Rattle.lines.specs.Bytes.{splice};
+ghost use Rattle.reader.specs.Read.{lineInstant};
 ghost use Rattle.report.specs.Stretches.{lowered, occupied, below};
 ghost use Rattle.report.specs.Report.{reportLine, runReport, refusalReport, reportOf, writtenBytes, shortBuffer, Written};
-ghost use Rattle.report.specs.Gathering.{heldSteps, HeldRun, Places, PutStretch, Marked, Closed, Gathered, Beside, rowsOf, comesFirst, mergedRows, freshSpan, instantAfter, insideAfter};
+ghost use Rattle.report.specs.Gathering.{heldSteps, HeldRun, Places, PutStretch, Marked, Closed, Gathered, Beside, rowsOf, comesFirst, mergedRows, freshSpan, insideAfter};
 use settings::Verdict;
 
 // Whether the report was written, and how many bytes it has; 14 at line 0 where they do not fit.
@@ -161,7 +162,7 @@ fn gather_lowered(
 // The instant after a step of this letter.
 fn instant_after(now: u32, letter: u8) -> u32
     requires { ⌜ now < 65535 ⌝ }
-    ensures { λ r. ⌜ r ≡ instantAfter now letter ⌝ }
+    ensures { λ r. ⌜ r ≡ lineInstant letter now ⌝ }
 {
     if letter == b'T' { now + 1 } else { now }
 }
