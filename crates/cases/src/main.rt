@@ -129,17 +129,9 @@ fn inside_at_4() -> Bench {
 
 // Nothing at the last instant.
 fn at_last_instant() -> Bench {
-    let cabinet = Cabinet {
-        settings: settings_k(),
-        now: 9999999,
-        table: trains::fresh(),
-        command: Command::Up,
-    };
-    Bench {
-        cabinet: cabinet,
-        angle: 5760,
-        previous: 5760,
-    }
+    let mut b = fresh();
+    b.head.motion.control.now = 9999999;
+    b
 }
 
 // An occupy at 2 and at 3; the clock at 4 with the train still coming.

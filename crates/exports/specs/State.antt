@@ -12,7 +12,7 @@ use Rattle.trains.specs.declared.Table.{Table}
 use Rattle.trains.specs.Trains.{since}
 use Rattle.trains.specs.Table.{standingOf}
 use Rattle.bench.specs.declared.Bench.{Bench}
-use Rattle.bench.specs.Bench.{freshBench}
+use Rattle.bench.specs.Bench.{nowOf, commandOf, armOf, freshBench}
 use Rattle.runs.specs.declared.Step.{Step}
 use Rattle.runs.specs.Steps.{benchAfter}
 use Rattle.runs.specs.Run.{orFull, runRefusal, written}
@@ -36,7 +36,7 @@ trainNumbers t n (suc many) = standingNumber (standingOf t n) ∷ since (standin
 
 -- the 196 numbers of a bench
 unfoldable pub benchNumbers : Bench → List ℕ
-benchNumbers b = b .cabinet .now ∷ b .angle ∷ b .previous ∷ commandNumber (b .cabinet .command) ∷ trainNumbers (b .cabinet .table) 1 96
+benchNumbers b = nowOf b ∷ armOf b ∷ b .head .motion .previous ∷ commandNumber (commandOf b) ∷ trainNumbers (b .table) 1 96
 
 -- the number that refuses a run whose bench is written: the run's own, or 14 last, fewer than 196 places for the bench
 unfoldable pub stateRefusal : Settings → List ℕ → ℕ → ℕ → ℕ → ℕ → ℕ → ℕ

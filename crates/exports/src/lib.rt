@@ -2,7 +2,6 @@
 ghost use mathlib.Core.Path.{_≡_};
 ghost use Prim.Native.Nat.{_≤_};
 ghost use lib.ListN.{length};
-ghost use Rattle.trains.specs.Trains.{since};
 ghost use Rattle.runs.specs.Run.{stepsOf, over, runRefusal};
 ghost use Rattle.recording.specs.RunRecorded.{recordRefusal};
 ghost use Rattle.reader.specs.Read.{readText};
@@ -76,34 +75,25 @@ fn standing_number(standing: Standing) -> u32
     }
 }
 
-// The instant of a train's approach, 0 where it is away.
-fn approach_of(standing: Standing) -> u32
-    ensures { λ r. ⌜ r ≡ since standing ⌝ }
-{
-    match standing {
-        Standing::Away => 0,
-        Standing::Coming(a) => a,
-        Standing::Inside(a) => a,
-    }
-}
-
 // The bench by numbers: instant, angle, angle before and command, then the standing of each train and the instant of its approach.
 fn write_bench(b: Bench, state: &mut [u32])
     requires { ⌜ 196 ≤ length (now state) ⌝ }
     ensures { λ _. ⌜ now (state .exit) ≡ over (benchNumbers b) (now (state .entry)) ⌝ }
 {
-    let c = b.cabinet;
-    let command = c.command;
-    state[0] = c.now;
-    state[1] = b.angle as u32;
-    state[2] = b.previous as u32;
+    let motion = b.head.motion;
+    let control = motion.control;
+    let command = control.command;
+    let table = b.table;
+    state[0] = control.now;
+    state[1] = motion.angle as u32;
+    state[2] = motion.previous as u32;
     state[3] = command_number(command);
     let mut n: u32 = 1;
     let mut i: usize = 4;
     while n <= 96 {
-        let standing = c.table.standing_of(n);
+        let standing = table.standing_of(n);
         state[i] = standing_number(standing);
-        state[i + 1] = approach_of(standing);
+        state[i + 1] = trains::since_of(standing);
         n = n + 1;
         i = i + 2;
     }

@@ -2,6 +2,7 @@ pub mod Rules
 pub mod Invariants
 pub mod Moments
 pub mod OpenRoad
+pub mod Kept
 pub mod Agreement
 pub mod Demand
 pub mod Commands
@@ -10,5 +11,7 @@ pub mod Counts
 pub mod Claims
 pub mod Slices
 pub mod Through
+pub mod Turns
+pub mod Onward
 pub mod Running
 pub mod Cases

@@ -2,4 +2,5 @@ pub mod History
 pub mod Steps
 pub mod Demand
 pub mod Claims
+pub mod Kept
 pub mod Run

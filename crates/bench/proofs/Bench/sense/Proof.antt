@@ -1,0 +1,48 @@
+-- `bench::Bench::sense` meets its contract. Assumes nothing.
+use Rattle.bench.specs.Bench.{sensed}
+use borrow.Author.Needs.{needs}
+use Rattle.bench.proofs.Bench.sense.Statement.{statement}
+use Rattle.bench.proofs.Bench.sense.Tie as tie
+
+question-for-requires : tie.Need-question-for-requires
+question-for-requires c κs = search needs
+
+first-for-requires : tie.Need-first-for-requires
+first-for-requires c κs = search needs
+
+ask-requires : tie.Need-ask-requires
+ask-requires c κs = search needs
+
+sense-requires : tie.Need-sense-requires
+sense-requires c κs = search needs
+
+enum-told : tie.Need-enum-told
+enum-told c = search needs
+
+put-requires : tie.Need-put-requires
+put-requires c κs = search needs
+
+enum-told-2 : tie.Need-enum-told-2
+enum-told-2 c = search needs
+
+returns : tie.Need-returns
+unfolding sensed
+returns c = simp (← (c .put .ensures), c .before .before .enum-told .given .1, ← (c .before .before .before .before .sense .ensures), ← (c .before .before .before .before .before .ask .ensures), ← (c .before .before .before .before .before .before .first-for .ensures), ← (c .before .before .before .before .before .before .before .question-for .ensures))
+
+returns-2 : tie.Need-returns-2
+unfolding sensed
+returns-2 c = simp (c .enum-told2 .given .1, ← (c .before .before .sense .ensures), ← (c .before .before .before .ask .ensures), ← (c .before .before .before .before .first-for .ensures), ← (c .before .before .before .before .before .question-for .ensures))
+
+pub sense-spec : {M : Type 1} → statement M
+sense-spec =
+    tie.close
+    (tie.spec
+    question-for-requires
+    first-for-requires
+    ask-requires
+    sense-requires
+    enum-told
+    put-requires
+    enum-told-2
+    returns
+    returns-2)

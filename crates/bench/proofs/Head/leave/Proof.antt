@@ -1,0 +1,27 @@
+-- `bench::Head::leave` meets its contract. Assumes nothing.
+use Rattle.bench.specs.Bench.{headLeft}
+use Rattle.bench.proofs.Laws.{sense-refused}
+use borrow.Author.Needs.{needs}
+use Rattle.bench.proofs.Head.leave.Statement.{statement}
+use Rattle.bench.proofs.Head.leave.Tie as tie
+
+leave-refusal-requires : tie.Need-leave-refusal-requires
+leave-refusal-requires c κs = search needs
+
+look-requires : tie.Need-look-requires
+look-requires c κs = search needs
+
+returns : tie.Need-returns
+unfolding headLeft
+returns c = simp (← (c .look .ensures), c .before .if1 .taken, ← (c .before .before .leave-refusal .ensures))
+
+unsensed-requires : tie.Need-unsensed-requires
+unsensed-requires c κs = search needs
+
+returns-2 : tie.Need-returns-2
+unfolding headLeft
+returns-2 c = simp (c .unsensed .ensures, sense-refused _ (c .before .if1 .left), ← (c .before .before .leave-refusal .ensures))
+
+pub leave-spec : {M : Type 1} → statement M
+leave-spec =
+    tie.close (tie.spec leave-refusal-requires look-requires returns unsensed-requires returns-2)

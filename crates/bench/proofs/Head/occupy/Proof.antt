@@ -1,0 +1,28 @@
+-- `bench::Head::occupy` meets its contract. Assumes nothing.
+use Rattle.bench.specs.Bench.{headOccupied}
+use Rattle.bench.proofs.Laws.{sense-refused}
+use borrow.Author.Needs.{needs}
+use Rattle.bench.proofs.Head.occupy.Statement.{statement}
+use Rattle.bench.proofs.Head.occupy.Tie as tie
+
+occupy-refusal-requires : tie.Need-occupy-refusal-requires
+occupy-refusal-requires c κs = search needs
+
+since-of-requires : tie.Need-since-of-requires
+since-of-requires c κs = search needs
+
+returns : tie.Need-returns
+unfolding headOccupied
+returns c = simp (← (c .since-of .ensures), c .before .before .before .before .if1 .taken, ← (c .before .before .before .before .before .occupy-refusal .ensures))
+
+unsensed-requires : tie.Need-unsensed-requires
+unsensed-requires c κs = search needs
+
+returns-2 : tie.Need-returns-2
+unfolding headOccupied
+returns-2 c = simp (c .unsensed .ensures, sense-refused _ (c .before .if1 .left), ← (c .before .before .occupy-refusal .ensures))
+
+pub occupy-spec : {M : Type 1} → statement M
+occupy-spec =
+    tie.close
+    (tie.spec occupy-refusal-requires since-of-requires returns unsensed-requires returns-2)

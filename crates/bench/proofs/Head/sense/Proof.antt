@@ -1,0 +1,45 @@
+-- `bench::Head::sense` meets its contract. Assumes nothing.
+use borrow.Author.Needs.{needs}
+use Rattle.bench.proofs.Head.sense.Statement.{statement}
+use Rattle.bench.proofs.Head.sense.Tie as tie
+
+enum-told : tie.Need-enum-told
+enum-told c = search needs
+
+approach-requires : tie.Need-approach-requires
+approach-requires c κs = search needs
+
+enum-told-2 : tie.Need-enum-told-2
+enum-told-2 c = search needs
+
+occupy-requires : tie.Need-occupy-requires
+occupy-requires c κs = search needs
+
+enum-told-3 : tie.Need-enum-told-3
+enum-told-3 c = search needs
+
+leave-requires : tie.Need-leave-requires
+leave-requires c κs = search needs
+
+returns : tie.Need-returns
+returns c = simp (← (c .approach .ensures), c .before .enum-told .given .1)
+
+returns-2 : tie.Need-returns-2
+returns-2 c = simp (← (c .occupy .ensures), c .before .enum-told2 .given .1)
+
+returns-3 : tie.Need-returns-3
+returns-3 c = simp (← (c .leave .ensures), c .before .enum-told3 .given .1)
+
+pub sense-spec : {M : Type 1} → statement M
+sense-spec =
+    tie.close
+    (tie.spec
+    enum-told
+    approach-requires
+    enum-told-2
+    occupy-requires
+    enum-told-3
+    leave-requires
+    returns
+    returns-2
+    returns-3)

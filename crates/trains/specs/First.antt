@@ -1,0 +1,79 @@
+-- Which train is first to reach an instant of its own, its due instant or its latest one: what is kept beside the table (document 02, "Eight").
+-- Of equals it is the lowest number. Assumes nothing.
+use Prim.Native.Nat.{ℕ, _+_}
+use mathlib.Core.Bool.{Bool, true, false, cond, not, _&&_, _||_}
+use mathlib.Core.List.{List, [], _∷_}
+use lib.Dec.{ltb, leb, eqb}
+use Rattle.settings.specs.declared.Settings.{Settings}
+use Rattle.trains.specs.declared.Standing.{Standing}
+use Rattle.trains.specs.declared.Standing.the-variants.{Away, Coming, Inside}
+use Rattle.trains.specs.declared.Entry.{Entry}
+use Rattle.trains.specs.declared.Table.{Table}
+use Rattle.trains.specs.declared.First.{First}
+use Rattle.trains.specs.declared.First.the-variants.{Nobody, Train}
+use Rattle.trains.specs.declared.Question.{Question}
+use Rattle.trains.specs.declared.Question.the-variants.{Due, Latest}
+use Rattle.trains.specs.declared.Asked.{Asked}
+use Rattle.trains.specs.Trains.{dueInstant, latestInstant, placeOf}
+use Rattle.trains.specs.Table.{standingOf, put}
+
+-- train n with its own instant: the due instant of a present train, the latest instant of a coming one
+unfoldable pub ownOf : Settings → Question → ℕ → Standing → First
+ownOf s Due n Away = Nobody
+ownOf s Due n (Coming a) = Train n (dueInstant s a)
+ownOf s Due n (Inside a) = Train n (dueInstant s a)
+ownOf s Latest n Away = Nobody
+ownOf s Latest n (Coming a) = Train n (latestInstant s a)
+ownOf s Latest n (Inside a) = Nobody
+
+-- a train with this standing has the instant asked for
+unfoldable pub hasOwn : Question → Standing → Bool
+hasOwn q Away = false
+hasOwn q (Coming a) = true
+hasOwn Due (Inside a) = true
+hasOwn Latest (Inside a) = false
+
+-- n at t comes before m at u: sooner, or of equals the lower number
+abbrev pub before : ℕ → ℕ → ℕ → ℕ → Bool
+before n t m u = ltb t u || (eqb t u && leb n m)
+
+-- the one that is first of two
+unfoldable pub earlierOf : First → First → First
+earlierOf Nobody g = g
+earlierOf (Train n t) Nobody = Train n t
+earlierOf (Train n t) (Train m u) = cond (before n t m u) (Train n t) (Train m u)
+
+-- its instant is t or before
+unfoldable pub reachedBy : ℕ → First → Bool
+reachedBy t Nobody = false
+reachedBy t (Train n u) = leb u t
+
+-- it is train n
+unfoldable pub isNamed : ℕ → First → Bool
+isNamed n Nobody = false
+isNamed n (Train m t) = eqb m n
+
+-- who is first of the trains of a list of entries, whose numbers go on from k
+abbrev pub firstFrom : (ℕ → Standing → First) → ℕ → List Entry → First
+firstFrom own k [] = Nobody
+firstFrom own k (e ∷ es) = earlierOf (own (k + 1) (e .standing)) (firstFrom own (k + 1) es)
+
+-- who is first of all trains of the table
+unfoldable pub firstIn : Settings → Question → Table → First
+firstIn s q t = firstFrom (ownOf s q) 0 (t .places)
+
+-- the first of train m, where it is another than n and has the instant asked for, and of those before it
+unfoldable pub withOther : Settings → Question → ℕ → ℕ → Standing → First → First
+withOther s q n m standing best = cond (hasOwn q standing && not (eqb m n)) (earlierOf (ownOf s q m standing) best) best
+
+-- who is first of all trains but n
+unfoldable pub firstBut : Settings → Question → ℕ → Table → First
+firstBut s q n t = firstIn s q (put t n Away)
+
+-- the same where `was` is first of all: the table is read through only where that is train n
+unfoldable pub restOf : Settings → Question → First → ℕ → Table → First
+restOf s q was n t = cond (isNamed n was) (firstBut s q n t) was
+
+-- what the table says of train n
+abbrev pub askedOf : Table → Settings → Question → First → ℕ → Asked
+askedOf t s q was n = record { place = placeOf n; standing = standingOf t n; rest = restOf s q was n t }
