@@ -1,12 +1,15 @@
-// The proved library against the same rules in plain Rust, in place (inplace.rs), on the same inputs in one process. benchmark/run
-// builds and calls it:
+// The proved library against the same rules in plain Rust, in place, on the same inputs in one process: with full looks
+// (inplace.rs), and keeping the two values that the library keeps beside its table (kept.rs). benchmark/run builds and calls it:
 //
-//   bench                  both sides answer alike on every input, or it fails; then the times
-//   bench once SIDE INPUT  one side (ours, rust, or none: the input is only made) on one input (1, 8, 96, record), for callgrind
+//   bench                  all three sides answer alike on every input, or it fails; then the times
+//   bench once SIDE INPUT  a round of one side (ours, full, kept, or none: the input is only made) on one input (1, 8, 96, read,
+//                          report, small), for callgrind
 
 mod inplace;
+mod kept;
 
-use inplace::{Bench, Standing, FIRST_LINE, FULL, LAST_LINE, LINE, LONGEST};
+use inplace::{Bench, FullLooks, Looks, Standing, FIRST_LINE, FULL, LAST_LINE, LINE, LONGEST, ROW};
+use kept::Kept;
 use std::hint::black_box;
 use std::time::Instant;
 
@@ -30,13 +33,26 @@ extern "C" {
         orders: *mut u8,
         orders_len: usize,
     ) -> u8;
+    fn weqhaso_read(text: *const u8, len: usize) -> u64;
     fn weqhaso_report(text: *const u8, len: usize, out: *mut u8, out_len: usize) -> u64;
 }
 
 const STEPS: usize = 100_000;
 const ROUNDS: usize = 21;
 const RECORDS_A_ROUND: usize = 20;
+const SMALL_A_ROUND: usize = 1_000;
 const DAMAGED: usize = 20_000;
+// the sample record of document 01
+const SMALL: &[u8] = include_bytes!("../examples/k.record");
+
+#[derive(Clone, Copy)]
+enum Side {
+    Ours,
+    Full,
+    Kept,
+}
+
+const SIDES: [Side; 3] = [Side::Ours, Side::Full, Side::Kept];
 
 // A small generator of numbers (xorshift).
 struct Random(u64);
@@ -54,7 +70,7 @@ impl Random {
 // A train is coming for E to F ticks and then inside for about as long, so that every third of a tick brings a train's step.
 struct Yard {
     random: Random,
-    bench: Bench,
+    bench: Bench<FullLooks>,
     settings: [u32; 7],
     next: u32,
     present: u32,
@@ -75,14 +91,14 @@ impl Yard {
     }
 
     fn count(&self) -> usize {
-        self.bench.table.iter().filter(|t| !matches!(t, Standing::Away)).count()
+        self.bench.trains.table.iter().filter(|t| !matches!(t, Standing::Away)).count()
     }
 
     // The next number whose train is away.
     fn next_away(&mut self) -> u32 {
         loop {
             self.next = self.next % 96 + 1;
-            if let Standing::Away = self.bench.table[self.next as usize - 1] {
+            if let Standing::Away = self.bench.trains.table[self.next as usize - 1] {
                 return self.next;
             }
         }
@@ -92,7 +108,7 @@ impl Yard {
     fn train_moves(&mut self) -> Option<(u8, u32)> {
         let [e, f, ..] = self.settings;
         for n in 1..=96 {
-            match self.bench.table[n as usize - 1] {
+            match self.bench.trains.table[n as usize - 1] {
                 Standing::Coming(a) if self.bench.now >= a + e => {
                     if self.bench.now == a + f || self.random.below(e as u64) == 0 {
                         return Some((b'O', n));
@@ -176,8 +192,8 @@ impl List {
         }
     }
 
-    fn rust(&mut self) -> u8 {
-        inplace::run(
+    fn rust<L: Looks>(&mut self) -> u8 {
+        inplace::run::<L>(
             black_box(&self.settings),
             black_box(&self.letters),
             &self.numbers,
@@ -187,22 +203,30 @@ impl List {
         )
     }
 
-    fn check_same(&mut self) {
-        let ours = self.ours();
-        let (answers, orders) = (self.answers.clone(), self.orders.clone());
-        self.answers.fill(99);
-        self.orders.fill(99);
-        let rust = self.rust();
-        assert_eq!((ours, rust), (0, 0), "a run is refused");
-        assert!(answers == self.answers && orders == self.orders, "answers or commands differ");
-        assert!(answers.iter().all(|a| *a == 0), "a step is refused");
+    fn run(&mut self, side: Side) -> u8 {
+        match side {
+            Side::Ours => self.ours(),
+            Side::Full => self.rust::<FullLooks>(),
+            Side::Kept => self.rust::<Kept>(),
+        }
     }
 
-    fn mix(&self, many: u32) -> String {
+    fn check_same(&mut self) {
+        let answered = SIDES.map(|side| {
+            self.answers.fill(99);
+            self.orders.fill(99);
+            (self.run(side), self.answers.clone(), self.orders.clone())
+        });
+        let [ours, full, kept] = &answered;
+        assert!(ours.0 == 0 && ours.1.iter().all(|a| *a == 0), "a run or a step is refused");
+        assert!(ours == full && ours == kept, "answers or commands differ");
+    }
+
+    fn says(&self) -> String {
         let share = |l: u8| 100.0 * self.letters.iter().filter(|x| **x == l).count() as f64 / STEPS as f64;
         let commands = self.orders.iter().filter(|o| **o != 0).count();
         format!(
-            "{many:>2} trains: clock {:.1} %, approach {:.1} %, occupy {:.1} %, leave {:.1} %, {commands} commands; settings {:?}",
+            "clock {:.1} %, approach {:.1} %, occupy {:.1} %, leave {:.1} %, {commands} commands, {:?}",
             share(b'T'),
             share(b'A'),
             share(b'O'),
@@ -235,21 +259,37 @@ fn record() -> Vec<u8> {
     text
 }
 
-// Our report of a text, as the library packs its answer; the Rust side's is `inplace::report`.
-fn our_report(text: &[u8], out: &mut [u8]) -> u64 {
-    unsafe { weqhaso_report(text.as_ptr(), text.len(), out.as_mut_ptr(), out.len()) }
+// The verdict on a text, as the library packs it.
+fn read(side: Side, text: &[u8]) -> u64 {
+    match side {
+        Side::Ours => unsafe { weqhaso_read(text.as_ptr(), text.len()) },
+        Side::Full => inplace::read::<FullLooks>(text),
+        Side::Kept => inplace::read::<Kept>(text),
+    }
 }
 
-// Whether both sides answer a text alike, with so long a buffer, and leave the same bytes in it.
+// The report of a text, as the library packs its answer.
+fn report(side: Side, text: &[u8], out: &mut [u8]) -> u64 {
+    match side {
+        Side::Ours => unsafe { weqhaso_report(text.as_ptr(), text.len(), out.as_mut_ptr(), out.len()) },
+        Side::Full => inplace::report::<FullLooks>(text, out),
+        Side::Kept => inplace::report::<Kept>(text, out),
+    }
+}
+
+// Whether all sides give one verdict on a text and report it alike, with so long a buffer, and leave the same bytes in it.
 fn same_report(text: &[u8], len: usize) -> bool {
-    let (mut a, mut b) = (vec![99; len], vec![99; len]);
-    our_report(text, &mut a) == inplace::report(text, &mut b) && a == b
+    let [ours, full, kept] = SIDES.map(|side| {
+        let mut out = vec![99; len];
+        (read(side, text), report(side, text, &mut out), out)
+    });
+    ours == full && ours == kept
 }
 
-// The whole record, buffers that are just long enough and one byte short, and damaged records.
+// The whole record, buffers that are just long enough and one byte short, damaged records, and too long a text.
 fn check_same_reports(text: &[u8]) {
     let mut out = vec![99; LONGEST];
-    let bytes = (inplace::report(text, &mut out) / 256) as usize;
+    let bytes = (report(Side::Full, text, &mut out) / 256) as usize;
     for len in [LONGEST, bytes, bytes - 1, 19, 18, 0] {
         assert!(same_report(text, len), "reports differ with a buffer of {len} bytes");
     }
@@ -257,7 +297,7 @@ fn check_same_reports(text: &[u8]) {
     for _ in 0..DAMAGED {
         // most damage early, where it is cheap to reach
         let lines = 9 + r.below(60) as usize;
-        let mut damaged = text[..LINE * lines].to_vec();
+        let mut damaged = text[..(LINE * lines).min(text.len() - LINE)].to_vec();
         damaged.extend_from_slice(LAST_LINE);
         let at = r.below(damaged.len() as u64) as usize;
         match r.below(5) {
@@ -275,79 +315,137 @@ fn check_same_reports(text: &[u8]) {
     assert!(same_report(&long, 19), "reports of too long a text differ");
 }
 
-// The seconds of one call; its answer is kept from the optimiser.
-fn seconds<T>(mut call: impl FnMut() -> T) -> f64 {
-    let begin = Instant::now();
-    black_box(call());
-    begin.elapsed().as_secs_f64()
+// A record, the place for its report, and how many times it goes through in a round.
+struct Text {
+    bytes: Vec<u8>,
+    out: Vec<u8>,
+    times: usize,
 }
 
-// Round by round first ours, then the Rust version; the medians.
-fn medians(mut ours: impl FnMut() -> f64, mut rust: impl FnMut() -> f64) -> (f64, f64) {
-    let (mut a, mut b) = (Vec::new(), Vec::new());
-    for _ in 0..ROUNDS {
-        a.push(ours());
-        b.push(rust());
+impl Text {
+    fn new(bytes: Vec<u8>, times: usize) -> Text {
+        let out = vec![0; LONGEST];
+        Text { bytes, out, times }
     }
-    a.sort_by(f64::total_cmp);
-    b.sort_by(f64::total_cmp);
-    (a[ROUNDS / 2], b[ROUNDS / 2])
+
+    fn read(&self, side: Side) {
+        for _ in 0..self.times {
+            black_box(read(side, black_box(&self.bytes)));
+        }
+    }
+
+    fn report(&mut self, side: Side) {
+        for _ in 0..self.times {
+            black_box(report(side, black_box(&self.bytes), &mut self.out));
+        }
+    }
+
+    fn says(&mut self) -> String {
+        let rows = report(Side::Ours, &self.bytes, &mut self.out) / 256 / ROW as u64;
+        format!("{} bytes, a report of {rows} lines", self.bytes.len())
+    }
 }
 
-fn print_times(what: &str, units: usize, (ours, rust): (f64, f64)) {
-    let rate = |seconds: f64| units as f64 / seconds;
-    println!("{what:<26}{:>14.0}{:>14.0}{:>12.2}", rate(ours), rate(rust), ours / rust);
+enum Input {
+    Steps(List),
+    Read(Text),
+    Report(Text),
+}
+
+impl Input {
+    fn named(name: &str) -> Input {
+        match name {
+            "read" => Input::Read(Text::new(record(), RECORDS_A_ROUND)),
+            "report" => Input::Report(Text::new(record(), RECORDS_A_ROUND)),
+            "small" => Input::Report(Text::new(SMALL.to_vec(), SMALL_A_ROUND)),
+            many => Input::Steps(List::new(many.parse().expect("1, 8, 96, read, report or small"))),
+        }
+    }
+
+    fn check_same(&mut self) {
+        match self {
+            Input::Steps(list) => list.check_same(),
+            Input::Read(text) | Input::Report(text) => check_same_reports(&text.bytes),
+        }
+    }
+
+    fn says(&mut self) -> String {
+        match self {
+            Input::Steps(list) => list.says(),
+            Input::Read(text) | Input::Report(text) => text.says(),
+        }
+    }
+
+    // The steps or records of a round.
+    fn units(&self) -> usize {
+        match self {
+            Input::Steps(_) => STEPS,
+            Input::Read(text) | Input::Report(text) => text.times,
+        }
+    }
+
+    fn round(&mut self, side: Side) {
+        match self {
+            Input::Steps(list) => {
+                black_box(list.run(side));
+            }
+            Input::Read(text) => text.read(side),
+            Input::Report(text) => text.report(side),
+        }
+    }
+
+    // The seconds of a round.
+    fn seconds(&mut self, side: Side) -> f64 {
+        let begin = Instant::now();
+        self.round(side);
+        begin.elapsed().as_secs_f64()
+    }
+
+    // Round by round each side once; the medians.
+    fn medians(&mut self) -> [f64; 3] {
+        let rounds: Vec<[f64; 3]> = (0..ROUNDS).map(|_| SIDES.map(|side| self.seconds(side))).collect();
+        [0, 1, 2].map(|i| {
+            let mut times: Vec<f64> = rounds.iter().map(|r| r[i]).collect();
+            times.sort_by(f64::total_cmp);
+            times[ROUNDS / 2]
+        })
+    }
 }
 
 fn measure() {
-    let text = record();
-    check_same_reports(&text);
-    let mut lists: Vec<(u32, List)> = [1, 8, 96].map(|many| (many, List::new(many))).into();
-    for (_, list) in lists.iter_mut() {
-        list.check_same();
+    let mut inputs = [
+        ("steps, 1 present", Input::named("1")),
+        ("steps, 8 present", Input::named("8")),
+        ("steps, 96 present", Input::named("96")),
+        ("records of 65,520 bytes read", Input::named("read")),
+        ("records of 65,520 bytes read and reported", Input::named("report")),
+        ("small records read and reported", Input::named("small")),
+    ];
+    for (_, input) in &mut inputs {
+        input.check_same();
     }
-    let mut out = vec![0; LONGEST];
-    let bytes = inplace::report(&text, &mut out) / 256;
-    println!("Both sides give the same answers on these inputs, and on {DAMAGED} damaged records.");
-    println!("Lists of {STEPS} accepted steps; the number of trains present stays, but between a leave and the approach after it:");
-    for (many, list) in &lists {
-        println!("  {}", list.mix(*many));
+    println!("All three sides give the same answers on these inputs, and on {DAMAGED} damaged records of each kind.");
+    println!("Lists have {STEPS} accepted steps; the number of trains present stays, but between a leave and the approach after it.");
+    for (what, input) in &mut inputs {
+        println!("  {what}: {}", input.says());
     }
-    println!("A record of {} bytes, whose report has {} lines; records read and reported.", text.len(), bytes / 19);
-    println!("\n{:<26}{:>14}{:>14}{:>12}", "a second, median", "ours", "Rust", "time ratio");
-    for (many, list) in lists {
-        let list = std::cell::RefCell::new(list);
-        let times = medians(
-            || seconds(|| list.borrow_mut().ours()),
-            || seconds(|| list.borrow_mut().rust()),
-        );
-        print_times(&format!("steps, {many} present"), STEPS, times);
+    let [ours, full, kept, by_full, by_kept] = ["ours", "full looks", "kept", "by full", "by kept"];
+    println!("\n{:<43}{ours:>12}{full:>12}{kept:>12}{by_full:>10}{by_kept:>10}", "a second, median; ratios of time");
+    for (what, input) in &mut inputs {
+        let [ours, full, kept] = input.medians().map(|seconds| input.units() as f64 / seconds);
+        println!("{what:<43}{ours:>12.0}{full:>12.0}{kept:>12.0}{:>10.2}{:>10.2}", full / ours, kept / ours);
     }
-    let (mut mine, mut theirs) = (out.clone(), out);
-    let times = medians(
-        || seconds(|| for _ in 0..RECORDS_A_ROUND { black_box(our_report(black_box(&text), &mut mine)); }),
-        || seconds(|| for _ in 0..RECORDS_A_ROUND { black_box(inplace::report(black_box(&text), &mut theirs)); }),
-    );
-    print_times("records", RECORDS_A_ROUND, times);
 }
 
-// One side on one input, and nothing else.
+// One round of one side on one input, and nothing else.
 fn once(side: &str, input: &str) {
-    if input == "record" {
-        let (text, mut out) = (record(), vec![0; LONGEST]);
-        match side {
-            "ours" => black_box(our_report(black_box(&text), &mut out)),
-            "rust" => black_box(inplace::report(black_box(&text), &mut out)),
-            _ => 0,
-        };
-        return;
-    }
-    let mut list = List::new(input.parse().expect("1, 8, 96 or record"));
+    let mut input = Input::named(input);
     match side {
-        "ours" => black_box(list.ours()),
-        "rust" => black_box(list.rust()),
-        _ => 0,
-    };
+        "ours" => input.round(Side::Ours),
+        "full" => input.round(Side::Full),
+        "kept" => input.round(Side::Kept),
+        _ => {}
+    }
 }
 
 fn main() {

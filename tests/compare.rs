@@ -10,14 +10,18 @@
 // of the accepted steps, whole and damaged, through `weqhaso_read`: number and line; and through `weqhaso_report`, into buffers
 // just long enough, one byte shorter, and longer: every byte, and how many are used. Long records about the longest text that is
 // reported, 65,535 bytes. Ten million clock steps, up to the last instant. A mismatch prints the input that shows it.
+//
+// The library keeps two trains beside its table, the soonest due one and the coming one that is first at its latest; the second
+// program looks through the whole table each time. So there are also lists made for these two trains to change hands at nearly
+// every step of a train, through all five functions, with a count of how often they do.
 
 #[allow(dead_code)]
 #[path = "../second/second.rs"]
 mod second;
 
 use second::{
-    check, read, record_of, report, report_into, Bench, Recorder, Standing, K, LAST_INSTANT,
-    LINE_BYTES, LONGEST_TEXT,
+    check, read, record_line, record_of, report, report_into, ticks_for, Bench, Recorder, Standing,
+    K, LAST_INSTANT, LAST_LINE, LINE_BYTES, LONGEST_TEXT,
 };
 
 extern "C" {
@@ -86,6 +90,8 @@ extern "C" {
 
 const STEPS: u64 = 300_000;
 const LONG_TEXTS: u32 = 60;
+const HAND_LISTS: u32 = 1_500;
+const FULL_YARDS: u32 = 100;
 const WHOLE: u64 = 99;
 const UNTOUCHED: u8 = 99;
 
@@ -141,21 +147,26 @@ fn settings(r: &mut Random) -> [u32; 7] {
     s
 }
 
-// Mostly a reading that the movement rule allows, at its limit or beyond it.
+// A reading that the movement rule allows: at its limit, or this many 64ths beyond it.
+fn driven(b: &Bench, beyond: u32) -> f32 {
+    let angle = if b.cabinet.up {
+        (b.angle + b.settings[3] + beyond).min(5760)
+    } else {
+        b.angle.saturating_sub(b.settings[2] + beyond)
+    };
+    angle as f32 / 64.0
+}
+
+// Mostly a reading that the movement rule allows.
 fn reading(r: &mut Random, b: &Bench) -> f32 {
     let some = r.below(50) as u32 * (r.below(6) / 5) as u32;
-    let angle = if b.cabinet.up {
-        (b.angle + b.settings[3] + some).min(5760)
-    } else {
-        b.angle.saturating_sub(b.settings[2] + some)
-    };
     match r.below(12) {
         0 => f32::from_bits(r.next() as u32),
         1 => -0.0,
         2 => 90.015625,
         3 => r.below(5761) as f32 / 64.0,
         4 => (r.below(5761) as f32 + 0.5) / 64.0,
-        _ => angle as f32 / 64.0,
+        _ => driven(b, some),
     }
 }
 
@@ -567,11 +578,373 @@ fn long_text(r: &mut Random) -> Vec<u8> {
     }
 }
 
+// How often the kept trains changed hands over all lists, and how often the clock was held.
+#[derive(Default, Debug)]
+struct Hands {
+    // the soonest left and another one was soonest after it; of these, where both were due at one instant, and where the arm rose
+    by_leave: u32,
+    of_equals: u32,
+    raised: u32,
+    // a train with a lower number approached at the instant of the soonest one's approach
+    by_approach: u32,
+    // the train that was first at its latest went inside, and another one was first after it
+    by_occupy: u32,
+    // refusal 11
+    held: u32,
+}
+
+// The train that is first to reach an instant of its own: that instant, and its number.
+type First = Option<(u32, u32)>;
+
+impl Hands {
+    // An accepted step of a train: the soonest and the one first at its latest before it, and after it.
+    fn count(&mut self, letter: char, command: char, was: [First; 2], is: [First; 2]) {
+        let changed = [0, 1].map(|k| was[k].is_some() && is[k].is_some() && was[k] != is[k]);
+        let equals = was[0].map(|f| f.0) == is[0].map(|f| f.0);
+        let left = letter == 'L' && changed[0];
+        self.by_leave += left as u32;
+        self.of_equals += (left && equals) as u32;
+        self.raised += (left && command == 'U') as u32;
+        self.by_approach += (letter == 'A' && changed[0]) as u32;
+        self.by_occupy += (letter == 'O' && changed[1]) as u32;
+    }
+
+    // The lists are worth something only if all this happened often.
+    fn check_enough(&self) {
+        assert!(self.by_leave >= 10_000, "{self:?}");
+        assert!(self.of_equals >= 2_000, "{self:?}");
+        assert!(self.raised >= 1_000, "{self:?}");
+        assert!(self.by_approach >= 1_000, "{self:?}");
+        assert!(self.by_occupy >= 10_000, "{self:?}");
+        assert!(self.held >= 10_000, "{self:?}");
+    }
+}
+
+// The first to reach its own instant, of equals the lowest number, by a look through the whole table.
+fn first(b: &Bench, own: impl Fn(&Standing) -> Option<u32>) -> First {
+    let trains = (1..).zip(&b.trains);
+    trains.filter_map(|(n, t)| Some((own(t)?, n))).min()
+}
+
+fn soonest(b: &Bench) -> First {
+    first(b, |t| match t {
+        Standing::Away => None,
+        Standing::Coming(a) | Standing::Inside(a) => Some(a + b.settings[0]),
+    })
+}
+
+fn first_latest(b: &Bench) -> First {
+    first(b, |t| match t {
+        Standing::Coming(a) => Some(a + b.settings[1]),
+        _ => None,
+    })
+}
+
+// A list in the making, with the second program's bench after its steps so far.
+struct Walk<'a> {
+    r: &'a mut Random,
+    hands: &'a mut Hands,
+    b: Bench,
+    list: List,
+}
+
+impl Walk<'_> {
+    // A step of a train.
+    fn step(&mut self, letter: char, n: u32) {
+        let was = [soonest(&self.b), first_latest(&self.b)];
+        let answer = self.b.step(letter, n);
+        let noise = f32::from_bits(self.r.next() as u32);
+        self.list.add(letter, n, noise, n, answer);
+        if let Ok(command) = answer {
+            let is = [soonest(&self.b), first_latest(&self.b)];
+            self.hands.count(letter, command, was, is);
+        }
+    }
+
+    // A clock step, mostly with the angle that the command drives the arm to. Answers whether a train at its latest holds it.
+    fn tick(&mut self) -> bool {
+        let f = match self.r.below(16) {
+            0 => reading(self.r, &self.b),
+            _ => driven(&self.b, 0),
+        };
+        let answer = self.b.clock(f);
+        let number = self.r.next() as u32;
+        self.list.add('T', number, f, self.b.angle, answer);
+        self.hands.held += (answer == Err(11)) as u32;
+        answer == Err(11)
+    }
+
+    // Clock steps up to an instant, or to the one before it at which they are held.
+    fn tick_until(&mut self, instant: u32) {
+        while self.b.now < instant && !self.tick() {}
+    }
+
+    // Fewer clock steps than this.
+    fn ticks(&mut self, below: u64) {
+        let many = self.r.below(below) as u32;
+        self.tick_until(self.b.now + many);
+    }
+
+    fn standing(&self, n: u32) -> Standing {
+        self.b.trains[n as usize - 1]
+    }
+
+    // The train comes due and goes inside.
+    fn go_inside(&mut self, n: u32) {
+        if let Standing::Coming(a) = self.standing(n) {
+            self.tick_until(a + self.b.settings[0]);
+        }
+        self.step('O', n);
+    }
+
+    // Now and then a step that is refused, with 5 to 9.
+    fn refused(&mut self, trains: &[u32]) {
+        let n = self.r.one_of(trains);
+        let any = self.r.one_of(&['A', 'O', 'L']);
+        let beyond = 97 + self.r.below(9_000) as u32;
+        match (self.r.below(8), self.standing(n)) {
+            (0, _) => self.step(any, 0),
+            (1, _) => self.step(any, beyond),
+            (2, Standing::Away) | (3, Standing::Inside(_)) => self.step('O', n),
+            (2, _) => self.step('A', n),
+            (3, _) => self.step('L', n),
+            (4, Standing::Coming(a)) if self.b.now < a + self.b.settings[0] => self.step('O', n),
+            _ => {}
+        }
+    }
+
+    // A train that stands so, with some luck; else any of them.
+    fn one_that(&mut self, trains: &[u32], may: impl Fn(Standing) -> bool) -> u32 {
+        let mut able = trains.to_vec();
+        able.retain(|n| may(self.standing(*n)));
+        if able.is_empty() || self.r.below(4) == 0 {
+            able = trains.to_vec();
+        }
+        self.r.one_of(&able)
+    }
+}
+
+// Different trains: the first ones, the last ones, or any.
+fn some_trains(r: &mut Random, many: usize) -> Vec<u32> {
+    let all: Vec<u32> = (1..=96).collect();
+    match r.below(3) {
+        0 => all[..many].to_vec(),
+        1 => all[96 - many..].to_vec(),
+        _ => mixed(r, &all)[..many].to_vec(),
+    }
+}
+
+fn mixed(r: &mut Random, trains: &[u32]) -> Vec<u32> {
+    let mut order = trains.to_vec();
+    for i in (1..order.len()).rev() {
+        order.swap(i, r.below(i as u64 + 1) as usize);
+    }
+    order
+}
+
+// By rising numbers, by falling ones, or mixed.
+fn in_some_order(r: &mut Random, trains: &[u32]) -> Vec<u32> {
+    let mut order = mixed(r, trains);
+    match r.below(3) {
+        0 => order.sort(),
+        1 => order.sort_by(|n, m| m.cmp(n)),
+        _ => {}
+    }
+    order
+}
+
+// One train after the other: the soonest comes due, goes inside and leaves while others are present. It approaches again, at
+// once or some ticks later.
+fn relay(w: &mut Walk, trains: &[u32]) {
+    let gap = w.r.one_of(&[1, 2, 4, 9]);
+    let order = in_some_order(w.r, trains);
+    for n in &order {
+        w.step('A', *n);
+        w.ticks(gap);
+    }
+    for n in order.iter().cycle().take(5 * order.len()) {
+        w.go_inside(*n);
+        w.ticks(3);
+        w.step('L', *n);
+        w.refused(trains);
+        w.ticks(gap);
+        w.step('A', *n);
+    }
+}
+
+// Trains that approach at one instant, or some at a later one. They go inside and leave, each time in another order; some leave
+// before the others go inside, some approach again at once.
+fn ties(w: &mut Walk, trains: &[u32]) {
+    let order = in_some_order(w.r, trains);
+    let groups = order.split_at(w.r.below(order.len() as u64) as usize);
+    for group in [groups.0, groups.1] {
+        w.ticks(9);
+        for n in group {
+            w.step('A', *n);
+        }
+    }
+    for group in [groups.0, groups.1] {
+        for n in in_some_order(w.r, group) {
+            w.go_inside(n);
+            w.refused(trains);
+            if w.r.below(3) == 0 {
+                w.step('L', n);
+            }
+        }
+    }
+    for n in in_some_order(w.r, trains) {
+        w.step('L', n);
+        if w.r.below(4) == 0 {
+            w.step('A', n);
+        }
+        w.ticks(3);
+    }
+}
+
+// The clock is driven up to the latest instant of a coming train, again and again. Mostly the train that is first there goes
+// inside, now and then another one, and the clock is held as before.
+fn up_to_latest(w: &mut Walk, trains: &[u32]) {
+    for n in in_some_order(w.r, trains) {
+        w.step('A', n);
+        w.ticks(3);
+    }
+    for _ in 0..2 * trains.len() {
+        let Some((instant, first)) = first_latest(&w.b) else {
+            break;
+        };
+        w.tick_until(instant + 1);
+        let other = w.one_that(trains, |t| matches!(t, Standing::Coming(_)));
+        let n = w.r.one_of(&[first, first, first, other]);
+        w.step('O', n);
+    }
+    for n in in_some_order(w.r, trains) {
+        w.step('L', n);
+        w.ticks(3);
+    }
+}
+
+// Steps by chance, mostly such as are accepted.
+fn by_chance(w: &mut Walk, trains: &[u32]) {
+    for _ in 0..80 {
+        let (now, e) = (w.b.now, w.b.settings[0]);
+        let (letter, n) = match w.r.below(8) {
+            0 | 1 => ('A', w.one_that(trains, |t| t == Standing::Away)),
+            2 | 3 => (
+                'O',
+                w.one_that(trains, |t| matches!(t, Standing::Coming(a) if a + e <= now)),
+            ),
+            4 => (
+                'L',
+                w.one_that(trains, |t| matches!(t, Standing::Inside(_))),
+            ),
+            _ => ('T', 0),
+        };
+        if letter == 'T' {
+            w.tick();
+        } else {
+            w.step(letter, n);
+        }
+    }
+}
+
+// Trains that approach at one instant or at rising ones. They leave as they come due, or only when all are inside; with refused
+// steps in between.
+fn full_yard(w: &mut Walk, trains: &[u32]) {
+    let gap = w.r.one_of(&[1, 2, 5]);
+    let order = in_some_order(w.r, trains);
+    for n in &order {
+        w.step('A', *n);
+        w.refused(trains);
+        w.ticks(gap);
+    }
+    assert_eq!(w.b.trains_present(), trains.len());
+    let at_once = w.r.below(2) == 0;
+    for n in &order {
+        w.go_inside(*n);
+        w.refused(trains);
+        if at_once {
+            w.step('L', *n);
+        }
+    }
+    for n in in_some_order(w.r, trains) {
+        w.step('L', n);
+        w.refused(trains);
+        w.ticks(2);
+    }
+}
+
+// Settings that are taken; a longer stay for a full yard. E is just above D, or about as far as the look goes under the command
+// down: then the next train decides whether a leave raises the arm.
+fn close_settings(r: &mut Random, full: bool) -> [u32; 7] {
+    let p = r.one_of(&[5760, 2880, 1921]);
+    let q = r.one_of(&[5760, 2880, 1440]);
+    let (d, u) = (ticks_for(p), ticks_for(q));
+    let w = r.one_of(&[0, 0, 1, 4, 20, 60_000]);
+    let e = d + 1 + r.below(8) as u32 + r.one_of(&[0, u + w.min(20), 300 * full as u32]);
+    let f = e + r.below(5) as u32 + 500 * full as u32;
+    [e, f, p, q, w, d + f - e, u]
+}
+
+// A list in which the kept trains change hands: a full yard, or few trains in three of the ways above.
+fn handed_over(r: &mut Random, hands: &mut Hands, full: bool) -> ([u32; 7], List) {
+    let s = close_settings(r, full);
+    let many = if full { 96 } else { 2 + r.below(4) as usize };
+    let trains = some_trains(r, many);
+    let mut w = Walk {
+        r,
+        hands,
+        b: Bench::new(&s).expect("settings that are taken"),
+        list: List::default(),
+    };
+    if full {
+        full_yard(&mut w, &trains);
+    } else {
+        for _ in 0..3 {
+            let way: fn(&mut Walk, &[u32]) = w.r.one_of(&[relay, ties, up_to_latest, by_chance]);
+            way(&mut w, &trains);
+        }
+    }
+    // so that each list has a refused step
+    w.step('A', 0);
+    w.list.state = state_of(&w.b);
+    (s, w.list)
+}
+
+// The record of the steps before one that is refused for its train or because the clock is held, and that step's line after it.
+fn up_to_refused(r: &mut Random, s: &[u32; 7], list: &List) -> Vec<u8> {
+    let refused = |i: &usize| (5..=11).contains(&list.answers[*i]);
+    let steps: Vec<usize> = (0..list.answers.len()).filter(refused).collect();
+    let at = r.one_of(&steps);
+    let before = list.answers[..at].iter().filter(|a| **a == 0).count();
+    let accepted = &list.accepted[..before];
+    let now = accepted.iter().filter(|step| step.0 == 'T').count() as u32;
+    let line = match list.letters[at] {
+        b'T' => record_line(now + 1, 'T', 5760),
+        letter => record_line(now, letter as char, list.numbers[at]),
+    };
+    let (mut text, _) = record_of(s, accepted, LONGEST_TEXT).expect("settings that are taken");
+    text.truncate(text.len() - LINE_BYTES);
+    text.extend_from_slice(format!("{line}\n{LAST_LINE}\n").as_bytes());
+    text
+}
+
+// A list run and recorded, its record and one with a refused step read and reported: how many differ.
+fn list_differs(r: &mut Random, s: &[u32; 7], list: &List) -> u32 {
+    let (whole, _) = record_of(s, &list.accepted, LONGEST_TEXT).expect("settings that are taken");
+    let mut differ = !same_run(r, s, list) as u32;
+    differ += !same_state(r, s, list, WHOLE, 196) as u32;
+    differ += !same_record(r, s, list, whole.len()) as u32;
+    differ += text_differs(r, &whole);
+    let refused = up_to_refused(r, s, list);
+    differ + text_differs(r, &refused)
+}
+
 fn main() {
     let mut r = Random(0x2545_f491_4f6c_dd1d);
     let mut q = Random(0x9e37_79b9_7f4a_7c15);
     let mut p = Random(0xd1b5_4a32_d192_ed03);
     let mut z = Random(0x6a09_e667_f3bc_c909);
+    let mut h = Random(0xbb67_ae85_84ca_a73b);
     let (mut tried, mut states, mut records, mut texts, mut differ) = (0, 0, 0, 0, 0);
     while tried < STEPS {
         let s = settings(&mut r);
@@ -616,11 +989,20 @@ fn main() {
         texts += 1;
         differ += text_differs(&mut p, &text);
     }
+    let mut hands = Hands::default();
+    for i in 0..HAND_LISTS + FULL_YARDS {
+        let (s, list) = handed_over(&mut h, &mut hands, i >= HAND_LISTS);
+        differ += list_differs(&mut h, &s, &list);
+    }
+    if differ == 0 {
+        hands.check_enough();
+    }
+    let lists = HAND_LISTS + FULL_YARDS;
     tried += LAST_INSTANT as u64 + 1;
     differ += !same_clock(&K) as u32;
     let reports = 3 * texts;
     println!(
-        "{tried} steps, {states} final states, {records} recordings, {texts} texts and {reports} reports, {differ} differ"
+        "{tried} steps, {states} final states, {records} recordings, {texts} texts and {reports} reports, {lists} lists in which the kept trains change hands, {differ} differ"
     );
     std::process::exit((differ > 0) as i32);
 }
