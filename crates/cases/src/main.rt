@@ -1,11 +1,9 @@
 // The bench cases a to m of document 01 through the built functions, one line each, and its sample record with the report.
 // A step shows 0 (taken with no command), D or U (taken, with that command) or its refusal number; `second/expected` has the same lines.
-use arm::Command;
 use arm::Reading;
 use bench::Bench;
 use bench::Moved;
 use cabinet::Answer;
-use cabinet::Cabinet;
 use libc::STDOUT_FILENO;
 use runs::Step;
 use settings::Settings;
