@@ -28,7 +28,7 @@ use Rattle.bench.specs.declared.Event.the-variants.{Approach, Occupy, Le
 use Rattle.bench.specs.declared.Motion.{Motion}
 use Rattle.bench.specs.declared.Bench.{Bench}
 use Rattle.bench.specs.declared.Moved.{Moved}
-use Rattle.bench.specs.Bench.{nowOf, commandOf, standsAt, occupyRefusal, benchLeaveRefusal}
+use Rattle.bench.specs.Bench.{nowOf, commandOf, armOf, standsAt, occupyRefusal, benchLeaveRefusal}
 
 -- what is kept is what settings and table say: D and U, the soonest due present train, and the coming train that is first at its latest instant,
 -- of equals the lowest number
@@ -66,6 +66,7 @@ abbrev pub fullEntered : Bench → ℕ → Moved
 fullEntered b n =
     record { answer = Taken Nothing; bench = withTable (b .head .settings) (b .head .motion) (put (b .table) n (Inside (since (standsAt b n)))) }
 
+-- a sensor's event of train n, by the refusals of the bench
 unfoldable pub fullSensed : Bench → Event → ℕ → Moved
 fullSensed b Approach n = unless (approachRefusal n (standsAt b n)) b (fullPut b n (Coming (nowOf b)))
 fullSensed b Occupy n = unless (occupyRefusal (b .head .settings) (nowOf b) n (standsAt b n)) b (fullEntered b n)
@@ -77,10 +78,11 @@ fullClockRefusal b r =
     refuse (leb 9999999 (nowOf b)) 10
     (refuse (someLate (b .table) (b .head .settings) (nowOf b)) 11
     (refuse (not (isAllowed r)) 12
-    (refuse (not (mayMove (b .head .settings) (commandOf b) (b .head .motion .angle) (angleOf r))) 13
+    (refuse (not (mayMove (b .head .settings) (commandOf b) (armOf b) (angleOf r))) 13
     0)))
 
+-- a clock step: one tick, the arm at the angle read, and the full look
 unfoldable pub fullClocked : Bench → Reading → Moved
 fullClocked b r =
     unless (fullClockRefusal b r) b
-    (fullLooked (b .head .settings) (b .table) (record { control = later (b .head .motion .control); angle = angleOf r; previous = b .head .motion .angle }))
+    (fullLooked (b .head .settings) (b .table) (record { control = later (b .head .motion .control); angle = angleOf r; previous = armOf b }))
