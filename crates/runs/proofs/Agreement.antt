@@ -43,25 +43,12 @@ use Rattle.runs.specs.declared.Step.the-variants.{Approach, Occupy, Leav
 use Rattle.runs.specs.History.{History, instant, arm, Place, away, coming, inside, place, isAway, isComing, isInside, since, dueAt, latestAt, someTrain, someDue, someLate, look, command, verdict, keep, after, given, orderAt, history, verdicts, orders}
 use Rattle.runs.specs.Steps.{stateAfter, answersTo, benchStepped, benchAfter, benchAnswers}
 use Rattle.runs.specs.Kept.{fullStepped}
+use Rattle.runs.specs.Match.{Valid, shown, Core, Match}
 use Rattle.runs.specs.Demand.{answerOf, Agrees}
 use Rattle.runs.proofs.Rules.{some-true, some-false, approach-ok, occupy-ok, leave-ok}
-use Rattle.runs.proofs.Invariants.{Valid, clock-range}
+use Rattle.runs.proofs.Invariants.{clock-range}
 use Rattle.runs.proofs.Moments.{valid-after, valid}
 use Rattle.runs.proofs.Kept.{step-full, step-kept}
-
--- a train's standing, from where it is and its last approach; a table that is not told of occupies has the train inside as coming
-abbrev pub shown : Bool → Place → ℕ → Standing
-shown told away a = Away
-shown told coming a = Coming a
-shown told inside a = cond told (Inside a) (Coming a)
-
--- settings, an instant and a table are as the rules say; the command stands apart, since a look comes last.
--- The bench's table is told of occupies, and that of a cabinet alone is not
-pub record Core (told : Bool) (s : Settings) (h : History) (u : Settings) (i : ℕ) (t : Table) : Type 0 where
-  pub settings : u ≡ s
-  pub now : i ≡ instant h
-  pub formed : WellFormed t
-  pub stands : (n : ℕ) → standingOf t n ≡ shown told (place n h) (since n h)
 
 -- ---- looks
 
@@ -208,12 +195,6 @@ module _ {told : Bool} {s : Settings} {h : History} {u : Settings} {t : Table} {
   clock-heeds r = heeds (Clock r) t (later w) (clock-core m r) same refl
 
 -- ---- the whole bench
-
-pub record Match (s : Settings) (h : History) (b : Bench) : Type 0 where
-  pub core : Core true s h (b .head .settings) (nowOf b) (b .table)
-  pub command : commandOf b ≡ command s h
-  pub angle : armOf b ≡ arm h
-  pub kept : Kept b
 
 -- what a step gives: the rules' answer, and a bench that is as the rules say after it
 pub record Stands (s : Settings) (h : History) (x : Step) (k : ℕ) (m : Moved) : Type 0 where

@@ -3,4 +3,5 @@ pub mod Steps
 pub mod Demand
 pub mod Claims
 pub mod Kept
+pub mod Match
 pub mod Run

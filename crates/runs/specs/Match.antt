@@ -1,0 +1,41 @@
+-- A history of accepted steps, and a bench that is as the rules say of it: its settings, instant, command and arm, where each train is and since when,
+-- and what it keeps. Assumes nothing.
+use Prim.Native.Nat.{ℕ}
+use mathlib.Core.Path.{_≡_}
+use mathlib.Core.Bool.{Bool, true, cond}
+use mathlib.Core.List.{[], _∷_}
+use Rattle.settings.specs.declared.Settings.{Settings}
+use Rattle.trains.specs.declared.Standing.{Standing}
+use Rattle.trains.specs.declared.Standing.the-variants.{Away, Coming, Inside}
+use Rattle.trains.specs.declared.Table.{Table}
+use Rattle.trains.specs.Table.{standingOf, WellFormed}
+use Rattle.bench.specs.declared.Bench.{Bench}
+use Rattle.bench.specs.Bench.{nowOf, commandOf, armOf}
+use Rattle.bench.specs.Full.{Kept}
+use Rattle.runs.specs.History.{History, instant, arm, Place, away, coming, inside, place, since, command, verdict}
+
+-- every step of the history was accepted after those before it
+abbrev pub Valid : Settings → History → Type 0
+Valid s [] = Unit {0}
+Valid s (x ∷ h) = Valid s h × (verdict s h x ≡ 0)
+
+-- a train's standing, from where it is and its last approach; a table that is not told of occupies has the train inside as coming
+abbrev pub shown : Bool → Place → ℕ → Standing
+shown told away a = Away
+shown told coming a = Coming a
+shown told inside a = cond told (Inside a) (Coming a)
+
+-- settings, an instant and a table are as the rules say; the command stands apart, since a look comes last.
+-- The bench's table is told of occupies, and that of a cabinet alone is not
+pub record Core (told : Bool) (s : Settings) (h : History) (u : Settings) (i : ℕ) (t : Table) : Type 0 where
+  pub settings : u ≡ s
+  pub now : i ≡ instant h
+  pub formed : WellFormed t
+  pub stands : (n : ℕ) → standingOf t n ≡ shown told (place n h) (since n h)
+
+-- the whole bench is as the rules say, and keeps what its settings and its table say
+pub record Match (s : Settings) (h : History) (b : Bench) : Type 0 where
+  pub core : Core true s h (b .head .settings) (nowOf b) (b .table)
+  pub command : commandOf b ≡ command s h
+  pub angle : armOf b ≡ arm h
+  pub kept : Kept b
