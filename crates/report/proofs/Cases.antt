@@ -1,4 +1,4 @@
--- The report of document 01's sample run, of one cut short, and of two stretches that touch. Assumes nothing.
+-- The report of document 01's sample run, of one cut short, of two stretches that touch, and of one within an instant. Assumes nothing.
 use Prim.Native.Nat.{ℕ}
 use mathlib.Core.Path.{_≡_, refl}
 use mathlib.Core.Bool.{false}
@@ -10,7 +10,7 @@ use Rattle.lines.specs.Numeral.{numeral, figureOf}
 use Rattle.runs.specs.declared.Step.{Step}
 use Rattle.runs.specs.declared.Step.the-variants.{Approach, Occupy, Leave, Clock}
 use Rattle.runs.specs.History.{someFrom}
-use Rattle.report.specs.Stretches.{laterMoments, only, stretchesFrom, armBelow, someInside}
+use Rattle.stretches.specs.Stretches.{laterMoments, only, stretchesFrom, armBelow, someInside}
 use Rattle.report.specs.Report.{reportLine, merged, runReport}
 
 -- a clock step with an angle in 64ths
@@ -34,3 +34,8 @@ running-report = refl
 pub touching-report : runReport (Approach 2 ∷ entered ++ (Leave 1 ∷ Occupy 2 ∷ tick 0 ∷ Leave 2 ∷ [])) ≡ reportLine 2 5 110 ++ reportLine 3 4 79 ++ reportLine 4 5 79 ++ reportLine 2 4 90
 unfolding runReport merged reportLine numeral figureOf laterMoments only stretchesFrom armBelow someInside someFrom readingOf
 touching-report = refl
+
+-- train 1 is inside for no tick: a stretch of one instant
+pub moment-report : runReport (Approach 1 ∷ tick 5760 ∷ tick 2880 ∷ tick 0 ∷ Occupy 1 ∷ Leave 1 ∷ []) ≡ reportLine 2 3 110 ++ reportLine 3 3 79 ++ reportLine 1 2 90
+unfolding runReport merged reportLine numeral figureOf laterMoments only stretchesFrom armBelow someInside someFrom readingOf
+moment-report = refl

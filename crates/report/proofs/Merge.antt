@@ -1,108 +1,197 @@
--- Two kinds of rows merged into a buffer, line by line; and the rows of stretches merged as the report has them. Assumes nothing.
-use Prim.Native.Nat.{ℕ, zero, suc, _+_, _-_, _*_, _≤_, _<_}
-use native.Mathlib.Numerals.{add-one}
+-- The stretches that two cursors find, merged into a buffer line by line. Assumes nothing.
+use Prim.Native.Nat.{ℕ, zero, suc, _+_, _*_, _≤_, _<_}
 use native.Mathlib.Omega.{arith}
 use mathlib.Core.Path.{_≡_, refl, sym, ap, _∙_}
-use mathlib.Core.Bool.{Bool, true, false, cond, _&&_, _||_, true≢false, false≢true}
-use mathlib.Core.List.{List, [], _++_, append-assoc, append-nil}
-use lib.Dec.{leb, ltb}
-use lib.ListN.{length, getD, length-append}
-use borrow.Author.Tests.{ltb-true, ltb-false, leb-false}
+use mathlib.Core.Bool.{Bool, true, false, not, cond, _&&_, _||_, true≢false}
+use mathlib.Core.List.{List, [], _∷_, _++_, append-assoc, append-nil}
+use lib.Dec.{leb}
+use lib.ListN.{length, length-append}
 use Rattle.lines.specs.Bytes.{splice}
 use Rattle.lines.proofs.Splices.{splice-none, length-splice, splice-then}
-use Rattle.report.specs.Gathering.{Rows, rowLine, comesFirst, mergedRows}
+use Rattle.stretches.specs.declared.Next.{Next}
+use Rattle.stretches.specs.declared.Sort.the-variants.{Lowered, Occupied}
+use Rattle.stretches.specs.declared.Stretch.{Stretch}
+use Rattle.stretches.specs.Walk.{startCursor, stretchesAhead, headed, Gives}
+use Rattle.report.specs.Report.{stretchLetter, stretchLine, merged}
+use Rattle.report.specs.Rows.{comesFirst, ns, os, rowsIn, rowLines, Space}
 use Rattle.report.proofs.Rows.{length-row}
 
--- ---- which row comes first
+-- ---- lists of stretches merged
 
-module _ (ns os : List ℕ) (i j : ℕ) where
-  -- a row of the first kind is there
-  pub first-there : comesFirst ns os i j ≡ true → i < length ns
-  unfolding comesFirst
-  first-there e = go (ltb i (length ns)) refl e
-    where
-      go : (b : Bool) → ltb i (length ns) ≡ b → (b && (leb (length os) j || leb (getD ns i 0) (getD os j 0))) ≡ true → i < length ns
-      go true q r = ltb-true i (length ns) q
-      go false q r = absurd (false≢true r)
+-- all lines of both
+abbrev pub mergedAll : List Stretch → List Stretch → List ℕ
+mergedAll xs ys = merged (length xs + length ys) xs ys
 
-  -- or one of the second
-  pub second-there : i ≤ length ns → i + j < length ns + length os → comesFirst ns os i j ≡ false → j < length os
-  unfolding comesFirst
-  second-there h k e = go (ltb i (length ns)) (leb (length os) j) refl refl e
+line-long : (c : ℕ) (x : Stretch) → length (stretchLine c x) ≡ 19
+line-long c x = length-row (x .first) (x .last) (stretchLetter c x)
+
+merged-long : (fuel : ℕ) (xs ys : List Stretch) → fuel ≡ length xs + length ys → length (merged fuel xs ys) ≡ 19 * fuel
+unfolding merged
+merged-long zero xs ys e = refl
+merged-long (suc fuel) [] [] e = absurd (omega arith)
+merged-long (suc fuel) (x ∷ xs) [] e = length-append (stretchLine 78 x) _ ∙ omega (arith, line-long 78 x, merged-long fuel xs [] (omega arith))
+merged-long (suc fuel) [] (y ∷ ys) e = length-append (stretchLine 79 y) _ ∙ omega (arith, line-long 79 y, merged-long fuel [] ys (omega arith))
+merged-long (suc fuel) (x ∷ xs) (y ∷ ys) e = go (leb (x .first) (y .first)) (merged-long fuel xs (y ∷ ys) (omega arith)) (merged-long fuel (x ∷ xs) ys (omega arith))
+  where
+    go : (b : Bool) → length (merged fuel xs (y ∷ ys)) ≡ 19 * fuel → length (merged fuel (x ∷ xs) ys) ≡ 19 * fuel →
+        length (cond b (stretchLine 78 x ++ merged fuel xs (y ∷ ys)) (stretchLine 79 y ++ merged fuel (x ∷ xs) ys)) ≡ 19 * suc fuel
+    go true l m = length-append (stretchLine 78 x) _ ∙ omega (arith, line-long 78 x)
+    go false l m = length-append (stretchLine 79 y) _ ∙ omega (arith, line-long 79 y)
+
+pub rows-bytes : (t : List ℕ) → length (rowLines t) ≡ 19 * rowsIn t
+unfolding rowLines rowsIn
+rows-bytes t = merged-long (length (ns t) + length (os t)) (ns t) (os t) refl
+
+suc-left : (a b : ℕ) → suc a + b ≡ suc (a + b)
+suc-left a b = omega arith
+
+suc-right : (a b : ℕ) → a + suc b ≡ suc (a + b)
+suc-right a b = omega arith
+
+-- the next line is the N stretch found, or the O stretch found
+module _ (n o : Next) where
+  first-found : comesFirst n o ≡ true → n .found ≡ true
+  first-found e = go (n .found) e
     where
-      go : (b d : Bool) → ltb i (length ns) ≡ b → leb (length os) j ≡ d → (b && (d || leb (getD ns i 0) (getD os j 0))) ≡ false → j < length os
-      go true true q s r = absurd (true≢false r)
-      go true false q s r = leb-false (length os) j s
-      go false d q s r = let l = ltb-false i (length ns) q in omega arith
+      go : (b : Bool) → (b && (not (o .found) || leb (n .stretch .first) (o .stretch .first))) ≡ true → b ≡ true
+      go true q = refl
+      go false q = q
+
+  second-found : (n .found || o .found) ≡ true → comesFirst n o ≡ false → o .found ≡ true
+  second-found f e = go (n .found) (o .found) f e
+    where
+      go : (a b : Bool) → (a || b) ≡ true → (a && (not b || leb (n .stretch .first) (o .stretch .first))) ≡ false → b ≡ true
+      go true true q r = refl
+      go true false q r = sym r
+      go false b q r = q
+
+  first-next : (xs ys : List Stretch) → comesFirst n o ≡ true → mergedAll (headed n xs) (headed o ys) ≡ stretchLine 78 (n .stretch) ++ mergedAll xs (headed o ys)
+  unfolding merged
+  first-next xs ys e = go (n .found) (o .found) e
+    where
+      go : (a b : Bool) → (a && (not b || leb (n .stretch .first) (o .stretch .first))) ≡ true →
+          mergedAll (cond a (n .stretch ∷ xs) []) (cond b (o .stretch ∷ ys) []) ≡ stretchLine 78 (n .stretch) ++ mergedAll xs (cond b (o .stretch ∷ ys) [])
+      go true true q = ap (λ (k : ℕ). merged k (n .stretch ∷ xs) (o .stretch ∷ ys)) (suc-left (length xs) (suc (length ys))) ∙ rw q
+      go true false q = ap (λ (k : ℕ). merged k (n .stretch ∷ xs) []) (suc-left (length xs) 0)
+      go false b q = absurd (true≢false (sym q))
+
+  second-next : (xs ys : List Stretch) → (n .found || o .found) ≡ true → comesFirst n o ≡ false → mergedAll (headed n xs) (headed o ys) ≡ stretchLine 79 (o .stretch) ++ mergedAll (headed n xs) ys
+  unfolding merged
+  second-next xs ys f e = go (n .found) (o .found) f e
+    where
+      go : (a b : Bool) → (a || b) ≡ true → (a && (not b || leb (n .stretch .first) (o .stretch .first))) ≡ false →
+          mergedAll (cond a (n .stretch ∷ xs) []) (cond b (o .stretch ∷ ys) []) ≡ stretchLine 79 (o .stretch) ++ mergedAll (cond a (n .stretch ∷ xs) []) ys
+      go true true p q = ap (λ (k : ℕ). merged k (n .stretch ∷ xs) (o .stretch ∷ ys)) (suc-right (suc (length xs)) (length ys)) ∙ rw q
+      go true false p q = absurd (true≢false q)
+      go false true p q = ap (λ (k : ℕ). merged k [] (o .stretch ∷ ys)) (suc-right 0 (length ys))
+      go false false p q = absurd (true≢false (sym p))
 
 -- ---- the rows in the buffer
 
--- a row for each that is written
-pub rows-length : (ns os : Rows) (fuel i j : ℕ) → length (mergedRows ns os fuel i j) ≡ 19 * fuel
-unfolding mergedRows
-rows-length ns os zero i j = refl
-rows-length ns os (suc fuel) i j = go (comesFirst (ns .firsts) (os .firsts) i j) (rows-length ns os fuel (suc i) j) (rows-length ns os fuel i (suc j))
-  where
-    go : (b : Bool) → length (mergedRows ns os fuel (suc i) j) ≡ 19 * fuel → length (mergedRows ns os fuel i (suc j)) ≡ 19 * fuel →
-        length (cond b (rowLine ns i ++ mergedRows ns os fuel (suc i) j) (rowLine os j ++ mergedRows ns os fuel i (suc j))) ≡ 19 * suc fuel
-    go true x y = length-append (rowLine ns i) _ ∙ omega (arith, length-row (getD (ns .firsts) i 0) (getD (ns .lasts) i 0) (getD (ns .marks) i 0))
-    go false x y = length-append (rowLine os j) _ ∙ omega (arith, length-row (getD (os .firsts) j 0) (getD (os .lasts) j 0) (getD (os .marks) j 0))
+module _ (t out₀ : List ℕ) (space : Space t out₀) where
+  -- what is still to come
+  abbrev aheadN : Next → List Stretch
+  aheadN n = headed n (stretchesAhead Lowered t (n .cursor))
 
-module _ (ns os : Rows) (out₀ : List ℕ) where
-  abbrev n : ℕ
-  n = length (ns .firsts)
+  abbrev aheadO : Next → List Stretch
+  aheadO o = headed o (stretchesAhead Occupied t (o .cursor))
 
-  abbrev o : ℕ
-  o = length (os .firsts)
+  -- an answer's instants are within the text
+  abbrev Within : Next → Type 0
+  Within r = (r .stretch .first ≤ r .stretch .last) × (r .stretch .last ≤ length t)
 
-  abbrev whole : List ℕ
-  whole = mergedRows ns os (n + o) 0 0
-
-  -- i rows of the first kind and j of the second are written, and the rest is to come
-  pub record Merging (out : List ℕ) (i j : ℕ) : Type 0 where
-    pub within : (i ≤ n) × (j ≤ o)
+  pub record Merging (out : List ℕ) (n o : Next) (at : ℕ) : Type 0 where
+    pub withinN : Within n
+    pub withinO : Within o
     pub sofar : List ℕ
-    pub bytes : length sofar ≡ 19 * (i + j)
+    pub bytes : length sofar ≡ at
     pub written : out ≡ splice out₀ 0 sofar
-    pub rest : sofar ++ mergedRows ns os (n + o - (i + j)) i j ≡ whole
+    pub count : at + 19 * (length (aheadN n) + length (aheadO o)) ≡ 19 * rowsIn t
+    pub rest : sofar ++ mergedAll (aheadN n) (aheadO o) ≡ rowLines t
 
-  pub merging-start : Merging out₀ 0 0
-  merging-start = record { within = (omega arith, omega arith); sofar = []; bytes = refl; written = splice-none out₀ 0; rest = ap (λ k. mergedRows ns os k 0 0) (omega arith) }
+  pub merging-start : (n o : Next) → Gives Lowered t startCursor n → Gives Occupied t startCursor o → Merging out₀ n o 0
+  unfolding rowsIn rowLines
+  merging-start n o g h =
+      record {
+        withinN = (g .ordered, g .within);
+        withinO = (h .ordered, h .within);
+        sofar = [];
+        bytes = refl;
+        written = splice-none out₀ 0;
+        count = rw (← (g .stands), ← (h .stands)) (omega arith);
+        rest = rw (← (g .stands), ← (h .stands));
+      }
 
-  -- the buffer keeps its length
-  pub merging-length : 19 * (n + o) ≤ length out₀ → (out : List ℕ) (i j : ℕ) → Merging out i j → length out ≡ length out₀
-  merging-length space out i j w = ap length (w .written) ∙ length-splice out₀ 0 (w .sofar) (omega (arith, w .bytes, w .within .0, w .within .1))
+  module _ (out : List ℕ) (n o : Next) (at : ℕ) (w : Merging out n o at) where
+    -- the buffer keeps its length
+    pub merging-length : length out ≡ length out₀
+    merging-length = ap length (w .written) ∙ length-splice out₀ 0 (w .sofar) (omega (arith, w .bytes, w .count, space .room))
 
-  module _ (space : 19 * (n + o) ≤ length out₀) (out : List ℕ) (i j : ℕ) (w : Merging out i j) (more : i + j < n + o) where
     -- one row more
-    row-more : (row after : List ℕ) (i′ j′ : ℕ) → length row ≡ 19 → i′ + j′ ≡ suc (i + j) → (i′ ≤ n) × (j′ ≤ o) →
-        ((fuel : ℕ) → mergedRows ns os (suc fuel) i j ≡ row ++ mergedRows ns os fuel i′ j′) → after ≡ splice out (19 * (i + j)) row → Merging after i′ j′
-    row-more row after i′ j′ l e k unfolds p =
-        let fuel : n + o - (i + j) ≡ suc (n + o - (i′ + j′)) = omega arith in
-        let bytes = w .bytes in
+    row-more : (row after : List ℕ) (n′ o′ : Next) → length row ≡ 19 → Within n′ → Within o′ →
+        length (aheadN n) + length (aheadO o) ≡ suc (length (aheadN n′) + length (aheadO o′)) →
+        mergedAll (aheadN n) (aheadO o) ≡ row ++ mergedAll (aheadN n′) (aheadO o′) → after ≡ splice out at row → Merging after n′ o′ (at + 19)
+    row-more row after n′ o′ l x y e q p =
         record {
-          within = k;
+          withinN = x;
+          withinO = y;
           sofar = w .sofar ++ row;
-          bytes = length-append (w .sofar) row ∙ omega arith;
-          written = p ∙ splice-then out₀ 0 (w .sofar) (19 * (i + j)) (w .written) (omega arith) row (omega arith);
-          rest = append-assoc (w .sofar) row _ ∙ ap (λ (l : List ℕ). w .sofar ++ l) (sym (ap (λ f. mergedRows ns os f i j) fuel ∙ unfolds _)) ∙ w .rest;
+          bytes = length-append (w .sofar) row ∙ omega (arith, w .bytes);
+          written = p ∙ splice-then out₀ 0 (w .sofar) at (w .written) (omega (arith, w .bytes)) row (omega (arith, w .bytes, w .count, space .room));
+          count = omega (arith, w .count);
+          rest = append-assoc (w .sofar) row _ ∙ ap (λ (k : List ℕ). w .sofar ++ k) (sym q) ∙ w .rest;
         }
 
-    pub merging-first : comesFirst (ns .firsts) (os .firsts) i j ≡ true → (after : List ℕ) → after ≡ splice out (19 * (i + j)) (rowLine ns i) → Merging after (i + 1) j
-    unfolding mergedRows
-    merging-first e after p =
-        let t = first-there (ns .firsts) (os .firsts) i j e in
-        row-more (rowLine ns i) after (i + 1) j (length-row _ _ _) (omega arith) (omega arith, omega (arith, w .within .1)) (λ fuel. rw (e, add-one)) p
+    -- a row fits
+    room : (r : Next) → Within r → 1 ≤ length (aheadN n) + length (aheadO o) → (at + 19 ≤ length out) × (r .stretch .first < 4294967296) × (r .stretch .last < 4294967296)
+    room r b h = (omega (arith, merging-length, w .count, space .room), omega (arith, b .0, b .1, space .short), omega (arith, b .1, space .short))
 
-    pub merging-second : comesFirst (ns .firsts) (os .firsts) i j ≡ false → (after : List ℕ) → after ≡ splice out (19 * (i + j)) (rowLine os j) → Merging after i (j + 1)
-    unfolding mergedRows
-    merging-second e after p =
-        let t = second-there (ns .firsts) (os .firsts) i j (w .within .0) more e in
-        row-more (rowLine os j) after i (j + 1) (length-row _ _ _) (omega arith) (omega (arith, w .within .0), omega arith) (λ fuel. rw (e, add-one)) p
+    module _ (e : comesFirst n o ≡ true) where
+      taken-n : aheadN n ≡ n .stretch ∷ stretchesAhead Lowered t (n .cursor)
+      taken-n = rw (first-found n o e)
 
-  -- the end
-  pub merging-end : (out : List ℕ) (i j : ℕ) → Merging out i j → n + o ≤ i + j → out ≡ splice out₀ 0 whole
-  unfolding mergedRows
-  merging-end out i j w h =
-      let none : n + o - (i + j) ≡ 0 = omega arith in
-      w .written ∙ ap (splice out₀ 0) (sym (append-nil (w .sofar)) ∙ rw none at (w .rest))
+      pub room-n : (at + 19 ≤ length out) × (n .stretch .first < 4294967296) × (n .stretch .last < 4294967296)
+      room-n = let a = ap length taken-n in room n (w .withinN) (omega arith)
+
+      pub merging-n : (after : List ℕ) → after ≡ splice out at (stretchLine 78 (n .stretch)) → (next : Next) → Gives Lowered t (n .cursor) next →
+          Merging after next o (at + 19)
+      merging-n after p next g =
+          let a = ap length taken-n in
+          let b = ap length (g .stands) in
+          row-more (stretchLine 78 (n .stretch)) after next o (line-long 78 (n .stretch)) (g .ordered, g .within) (w .withinO) (omega arith)
+          (first-next n o (stretchesAhead Lowered t (n .cursor)) (stretchesAhead Occupied t (o .cursor)) e
+          ∙ ap (λ (l : List Stretch). stretchLine 78 (n .stretch) ++ mergedAll l (aheadO o)) (g .stands)) p
+
+      pub less-n : (next : Next) → Gives Lowered t (n .cursor) next →
+          length (aheadN next) + length (aheadO o) < length (aheadN n) + length (aheadO o)
+      less-n next g = let a = ap length taken-n in let b = ap length (g .stands) in omega arith
+
+    module _ (more : (n .found || o .found) ≡ true) (e : comesFirst n o ≡ false) where
+      taken-o : aheadO o ≡ o .stretch ∷ stretchesAhead Occupied t (o .cursor)
+      taken-o = rw (second-found n o more e)
+
+      pub room-o : (at + 19 ≤ length out) × (o .stretch .first < 4294967296) × (o .stretch .last < 4294967296)
+      room-o = let a = ap length taken-o in room o (w .withinO) (omega arith)
+
+      pub merging-o : (after : List ℕ) → after ≡ splice out at (stretchLine 79 (o .stretch)) → (next : Next) → Gives Occupied t (o .cursor) next →
+          Merging after n next (at + 19)
+      merging-o after p next g =
+          let a = ap length taken-o in
+          let b = ap length (g .stands) in
+          row-more (stretchLine 79 (o .stretch)) after n next (line-long 79 (o .stretch)) (w .withinN) (g .ordered, g .within) (omega arith)
+          (second-next n o (stretchesAhead Lowered t (n .cursor)) (stretchesAhead Occupied t (o .cursor)) more e
+          ∙ ap (λ (l : List Stretch). stretchLine 79 (o .stretch) ++ mergedAll (aheadN n) l) (g .stands)) p
+
+      pub less-o : (next : Next) → Gives Occupied t (o .cursor) next →
+          length (aheadN n) + length (aheadO next) < length (aheadN n) + length (aheadO o)
+      less-o next g = let a = ap length taken-o in let b = ap length (g .stands) in omega arith
+
+    -- the end
+    pub merging-end : (n .found || o .found) ≡ false → out ≡ splice out₀ 0 (rowLines t)
+    unfolding merged
+    merging-end e = w .written ∙ ap (splice out₀ 0) (go (n .found) (o .found) refl refl e)
+      where
+        go : (a b : Bool) → n .found ≡ a → o .found ≡ b → (a || b) ≡ false → w .sofar ≡ rowLines t
+        go true b p q r = absurd (true≢false r)
+        go false true p q r = absurd (true≢false r)
+        go false false p q r = sym (append-nil (w .sofar)) ∙ rw (p, q) at (w .rest)

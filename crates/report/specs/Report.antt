@@ -14,7 +14,8 @@ use Rattle.runs.specs.declared.Step.{Step}
 use Rattle.reader.specs.Read.{readText}
 use Rattle.reader.specs.Round.{runOf}
 use Rattle.report.specs.declared.Reported.{Reported}
-use Rattle.report.specs.Stretches.{Stretch, lowered, occupied, below}
+use Rattle.stretches.specs.declared.Stretch.{Stretch}
+use Rattle.stretches.specs.Stretches.{lowered, occupied, below}
 
 -- ---- lines
 

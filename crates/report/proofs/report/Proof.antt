@@ -1,9 +1,6 @@
 -- `report::report` meets its contract: too long an input, an accepted text, a refused one. Assumes nothing.
-use native.Mathlib.Omega.{arith}
-use mathlib.Core.Path.{sym}
-use lib.Seq.{length-take-le}
 use Rattle.report.proofs.Answers.{written-as}
-use Rattle.report.proofs.Texts.{steps-within, run-held, taken-report, refused-report, line-within, long-report}
+use Rattle.report.proofs.Texts.{taken-says, taken-report, refused-report, line-within, long-report}
 use borrow.Author.Needs.{needs}
 use Rattle.report.proofs.report.Statement.{statement}
 use Rattle.report.proofs.report.Tie as tie
@@ -15,52 +12,42 @@ same-length : tie.Need-same-length
 same-length c = search needs
 
 returns : tie.Need-returns
-returns c = let a = c .before .before .before .before .before .before .before .args in written-as (long-report (a .text .now) (c .before .before .before .before .if1 .taken)) (c .before .before .report-refusal .ensures)
+returns c = written-as (long-report _ (c .before .before .before .before .if1 .taken)) (c .before .before .report-refusal .ensures)
 
-slice-aggregate-read-into : tie.Need-slice-aggregate-read-into
-slice-aggregate-read-into c = search needs
-
-slice-aggregate-read-into-2 : tie.Need-slice-aggregate-read-into-2
-slice-aggregate-read-into-2 c = search needs
-
-read-into-requires : tie.Need-read-into-requires
-read-into-requires c κs = search needs
+read-requires : tie.Need-read-requires
+read-requires c κs = search needs
 
 enum-told : tie.Need-enum-told
 enum-told c = search needs
 
-array-share-prefix-letters : tie.Need-array-share-prefix-letters
-array-share-prefix-letters c = let k = steps-within (c .before .before .before .before .before .before .before .before .before .before .args .text .now) _ _ _ _ _ (c .before .before .before .before .before .before .before .if1 .left) (search needs) (search needs) (c .before .before .before .before .read-into .ensures) (c .enum-told .given .1) in omega (arith, k, c .before .before .before .letters2 .given)
-
-slice-aggregate-report-run : tie.Need-slice-aggregate-report-run
-slice-aggregate-report-run c = let k = steps-within (c .before .before .before .before .before .before .before .before .before .before .before .args .text .now) _ _ _ _ _ (c .before .before .before .before .before .before .before .before .if1 .left) (search needs) (search needs) (c .before .before .before .before .before .read-into .ensures) (c .before .enum-told .given .1) in sym (length-take-le _ _ (omega (arith, k, c .before .before .before .before .letters2 .given)))
-
-array-share-prefix-numbers : tie.Need-array-share-prefix-numbers
-array-share-prefix-numbers c = let k = steps-within (c .before .before .before .before .before .before .before .before .before .before .before .args .text .now) _ _ _ _ _ (c .before .before .before .before .before .before .before .before .if1 .left) (search needs) (search needs) (c .before .before .before .before .before .read-into .ensures) (c .before .enum-told .given .1) in omega (arith, k, c .before .before .before .numbers2 .given)
-
-slice-aggregate-report-run-2 : tie.Need-slice-aggregate-report-run-2
-slice-aggregate-report-run-2 c = let k = steps-within (c .before .before .before .before .before .before .before .before .before .before .before .before .args .text .now) _ _ _ _ _ (c .before .before .before .before .before .before .before .before .before .if1 .left) (search needs) (search needs) (c .before .before .before .before .before .before .read-into .ensures) (c .before .before .enum-told .given .1) in sym (length-take-le _ _ (omega (arith, k, c .before .before .before .before .numbers2 .given)))
-
-report-run-requires : tie.Need-report-run-requires
-report-run-requires c κs = let k = steps-within (c .before .before .before .before .before .before .before .before .before .before .before .before .before .args .text .now) _ _ _ _ _ (c .before .before .before .before .before .before .before .before .before .before .if1 .left) (search needs) (search needs) (c .before .before .before .before .before .before .before .read-into .ensures) (c .before .before .before .enum-told .given .1) in let o = c .before .before .before .before .before .before .before .read-into in (rw (length-take-le (o .result .steps) (o .last .1 .0) (omega (arith, k, c .before .before .before .before .before .before .letters2 .given))) k, run-held (c .before .before .before .before .before .before .before .before .before .before .before .before .before .args .text .now) _ _ _ _ _ (c .before .before .before .before .before .before .before .before .before .before .if1 .left) (search needs) (search needs) (c .before .before .before .before .before .before .before .read-into .ensures) (c .before .before .before .enum-told .given .1))
+report-text-requires : tie.Need-report-text-requires
+report-text-requires c κs =
+    let read = c .before .before .before in
+    (read .before .if1 .left, taken-says _ _ (read .before .if1 .left) (read .read .ensures) (c .before .enum-told .given .1))
 
 enum-known-v : tie.Need-enum-known-v
 enum-known-v c = search needs
 
 report-refusal-requires-2 : tie.Need-report-refusal-requires-2
-report-refusal-requires-2 c κs = line-within (c .before .before .before .before .before .before .before .before .before .before .before .before .args .text .now) _ _ _ _ _ (c .before .before .before .before .before .before .before .before .before .if1 .left) (search needs) (search needs) (c .before .before .before .before .before .before .read-into .ensures)
+report-refusal-requires-2 c κs =
+    let read = c .before .before .before .before in
+    line-within _ _ (read .before .if1 .left) (read .read .ensures)
 
 same-length-2 : tie.Need-same-length-2
 same-length-2 c = search needs
 
 returns-2 : tie.Need-returns-2
-returns-2 c = written-as (taken-report (c .before .before .before .before .before .before .before .before .before .before .before .before .before .before .before .before .args .text .now) _ _ _ _ _ (c .before .before .before .before .before .before .before .before .before .before .before .before .before .if1 .left) (search needs) (search needs) (c .before .before .before .before .before .before .before .before .before .before .read-into .ensures) (c .before .before .before .before .before .before .enum-told .given .1)) (c .before .before .report-run .ensures)
+returns-2 c =
+    let read = c .before .before .before .before .before .before in
+    written-as (taken-report _ _ (read .before .if1 .left) (read .read .ensures) (c .before .before .before .before .enum-told .given .1)) (c .before .before .report-text .ensures)
 
 same-length-3 : tie.Need-same-length-3
 same-length-3 c = search needs
 
 returns-3 : tie.Need-returns-3
-returns-3 c = written-as (refused-report (c .before .before .before .before .before .before .before .before .before .before .before .before .before .before .before .args .text .now) _ _ _ _ _ (c .before .before .before .before .before .before .before .before .before .before .before .before .if1 .left) (search needs) (search needs) (c .before .before .before .before .before .before .before .before .before .read-into .ensures) _ (c .before .before .before .before .before .v .given .1)) (c .before .before .report-refusal2 .ensures)
+returns-3 c =
+    let read = c .before .before .before .before .before .before .before in
+    written-as (refused-report _ _ (read .before .if1 .left) (read .read .ensures) _ (c .before .before .before .before .before .v .given .1)) (c .before .before .report-refusal2 .ensures)
 
 pub report-spec : {M : Type 1} → statement M
 report-spec =
@@ -69,15 +56,9 @@ report-spec =
     report-refusal-requires
     same-length
     returns
-    slice-aggregate-read-into
-    slice-aggregate-read-into-2
-    read-into-requires
+    read-requires
     enum-told
-    array-share-prefix-letters
-    slice-aggregate-report-run
-    array-share-prefix-numbers
-    slice-aggregate-report-run-2
-    report-run-requires
+    report-text-requires
     enum-known-v
     report-refusal-requires-2
     same-length-2

@@ -1,97 +1,119 @@
 -- `report::write_rows` meets its contract: `Merging` holds at each row. Assumes nothing.
-use Prim.Native.Nat.{_+_, _-_}
+use Prim.Native.Nat.{_+_}
 use native.Mathlib.Omega.{arith}
 use mathlib.Core.Path.{sym, _∙_}
 use lib.ListN.{length}
 use borrow.Author.Needs.{needs}
-use Rattle.report.specs.Gathering.{rowsOf}
-use Rattle.report.proofs.Merge.{first-there, second-there, Merging, merging-start, merging-length, merging-first, merging-second, merging-end}
+use Rattle.stretches.specs.declared.Sort.the-variants.{Lowered, Occupied}
+use Rattle.stretches.specs.Walk.{stretchesAhead, headed}
+use Rattle.report.specs.Rows.{Space}
+use Rattle.report.proofs.Merge.{Merging, merging-start, merging-length, room-n, merging-n, less-n, room-o, merging-o, less-o, merging-end}
 use Rattle.report.proofs.write_rows.Statement.{statement}
 use Rattle.report.proofs.write_rows.Tie as tie
 
 abbrev Inv-loop : tie.InvT-loop
-Inv-loop nfirsts nlasts nmarks ofirsts olasts omarks out₀ i₀ j₀ out i j = Merging (rowsOf nfirsts nlasts nmarks) (rowsOf ofirsts olasts omarks) out₀ out i j
+Inv-loop text out₀ n₀ o₀ at₀ out n o at = (space : Space text out₀) → Merging text out₀ space out n o at
 
 abbrev μ-loop : tie.MeasureT-loop
-μ-loop nfirsts nlasts nmarks ofirsts olasts omarks out₀ i₀ j₀ out i j = length nfirsts + length ofirsts - (i + j)
+μ-loop text out₀ n₀ o₀ at₀ out n o at = length (headed n (stretchesAhead Lowered text (n .cursor))) + length (headed o (stretchesAhead Occupied text (o .cursor)))
+
+start-requires : tie.Need-start-requires Inv-loop μ-loop
+start-requires c κs = search needs
+
+next-lowered-requires : tie.Need-next-lowered-requires Inv-loop μ-loop
+next-lowered-requires c κs = search needs
+
+start-requires-2 : tie.Need-start-requires-2 Inv-loop μ-loop
+start-requires-2 c κs = search needs
+
+next-occupied-requires : tie.Need-next-occupied-requires Inv-loop μ-loop
+next-occupied-requires c κs = search needs
 
 loop-holds : tie.Need-loop-holds Inv-loop μ-loop
-loop-holds c = let a = c .before .before .before .before .before .before .before in merging-start (rowsOf (a .args .nfirsts .now) (a .args .nlasts .now) (a .args .nmarks .now)) (rowsOf (a .args .ofirsts .now) (a .args .olasts .now) (a .args .omarks .now)) (a .args .out .now)
-
-add-loop : tie.Need-add-loop Inv-loop μ-loop
-add-loop c = let k = c .loop in let a = c .before .before .before .before .before .before .before .before in omega (arith, k .inv .within .0, k .inv .within .1, a .pre .space, a .good)
-
-add-loop-2 : tie.Need-add-loop-2 Inv-loop μ-loop
-add-loop-2 c = let k = c .loop in let a = c .before .before .before .before .before .before .before .before in omega (arith, k .inv .within .0, k .inv .within .1, a .pre .space, a .good)
-
-add-at : tie.Need-add-at Inv-loop μ-loop
-add-at c = let k = c .before .loop in let a = c .before .before .before .before .before .before .before .before .before in omega (arith, k .inv .within .0, k .inv .within .1, a .pre .space, a .good)
-
-mul-at : tie.Need-mul-at Inv-loop μ-loop
-mul-at c = let k = c .before .loop in let a = c .before .before .before .before .before .before .before .before .before in omega (arith, k .inv .within .0, k .inv .within .1, a .pre .space, a .good)
+loop-holds c =
+    λ space. merging-start _ _ space _ _ (rw (c .before .before .before .start .ensures) at (c .before .before .next-lowered .ensures))
+    (rw (c .before .start2 .ensures) at (c .next-occupied .ensures))
 
 comes-first-requires : tie.Need-comes-first-requires Inv-loop μ-loop
 comes-first-requires c κs = search needs
 
-mul-write-row : tie.Need-mul-write-row Inv-loop μ-loop
-mul-write-row c = let k = c .before .before .before .before .loop in let a = c .before .before .before .before .before .before .before .before .before .before .before .before in let t = first-there (a .args .nfirsts .now) (a .args .ofirsts .now) (k .i) (k .j) (sym (c .before .before .comes-first .ensures) ∙ c .before .if1 .taken) in omega (arith, a .pre .lastN, a .pre .markN, a .good, t)
+write-stretch-requires : tie.Need-write-stretch-requires Inv-loop μ-loop
+write-stretch-requires c κs =
+    let chosen = c .before .before in
+    let loop = chosen .before .before .before .before .loop in
+    let start = chosen .before .before .before .before .before .before .before .before .before .before .before in
+    let r = room-n _ _ (start .pre) _ _ _ _ (loop .inv (start .pre)) (sym (chosen .comes-first .ensures) ∙ c .before .if2 .taken) in
+    (r .0, search needs, r .1, r .2)
 
-shared-slice-read-write-row : tie.Need-shared-slice-read-write-row Inv-loop μ-loop
-shared-slice-read-write-row c = let k = c .before .before .before .before .before .loop in let a = c .before .before .before .before .before .before .before .before .before .before .before .before .before in let t = first-there (a .args .nfirsts .now) (a .args .ofirsts .now) (k .i) (k .j) (sym (c .before .before .before .comes-first .ensures) ∙ c .before .before .if1 .taken) in omega (arith, a .pre .lastN, a .pre .markN, a .good, t)
+next-lowered-requires-2 : tie.Need-next-lowered-requires-2 Inv-loop μ-loop
+next-lowered-requires-2 c κs = search needs
 
-mul-write-row-2 : tie.Need-mul-write-row-2 Inv-loop μ-loop
-mul-write-row-2 c = let k = c .before .before .before .before .before .loop in let a = c .before .before .before .before .before .before .before .before .before .before .before .before .before in let t = first-there (a .args .nfirsts .now) (a .args .ofirsts .now) (k .i) (k .j) (sym (c .before .before .before .comes-first .ensures) ∙ c .before .before .if1 .taken) in omega (arith, a .pre .lastN, a .pre .markN, a .good, t)
-
-shared-slice-read-write-row-2 : tie.Need-shared-slice-read-write-row-2 Inv-loop μ-loop
-shared-slice-read-write-row-2 c = let k = c .before .before .before .before .before .before .loop in let a = c .before .before .before .before .before .before .before .before .before .before .before .before .before .before in let t = first-there (a .args .nfirsts .now) (a .args .ofirsts .now) (k .i) (k .j) (sym (c .before .before .before .before .comes-first .ensures) ∙ c .before .before .before .if1 .taken) in omega (arith, a .pre .lastN, a .pre .markN, a .good, t)
-
-shared-slice-read-write-row-3 : tie.Need-shared-slice-read-write-row-3 Inv-loop μ-loop
-shared-slice-read-write-row-3 c = let k = c .before .before .before .before .before .before .before .loop in let a = c .before .before .before .before .before .before .before .before .before .before .before .before .before .before .before in let t = first-there (a .args .nfirsts .now) (a .args .ofirsts .now) (k .i) (k .j) (sym (c .before .before .before .before .before .comes-first .ensures) ∙ c .before .before .before .before .if1 .taken) in omega (arith, a .pre .lastN, a .pre .markN, a .good, t)
-
-write-row-requires : tie.Need-write-row-requires Inv-loop μ-loop
-write-row-requires c κs = let k = c .before .before .before .before .before .before .before .loop in let a = c .before .before .before .before .before .before .before .before .before .before .before .before .before .before .before in let t = first-there (a .args .nfirsts .now) (a .args .ofirsts .now) (k .i) (k .j) (sym (c .before .before .before .before .before .comes-first .ensures) ∙ c .before .before .before .before .if1 .taken) in omega (arith, merging-length (rowsOf (a .args .nfirsts .now) (a .args .nlasts .now) (a .args .nmarks .now)) (rowsOf (a .args .ofirsts .now) (a .args .olasts .now) (a .args .omarks .now)) (a .args .out .now) (a .pre .space) (k .out) (k .i) (k .j) (k .inv), a .pre .space, k .inv .within .0, k .inv .within .1, t)
-
-add-i : tie.Need-add-i Inv-loop μ-loop
-add-i c = let k = c .before .before .before .before .before .before .before .before .before .before .loop in let a = c .before .before .before .before .before .before .before .before .before .before .before .before .before .before .before .before .before .before in omega (arith, k .inv .within .0, k .inv .within .1, a .pre .space, a .good)
+add-at : tie.Need-add-at Inv-loop μ-loop
+add-at c =
+    let chosen = c .before .before .before .before .before .before in
+    let loop = chosen .before .before .before .before .loop in
+    let start = chosen .before .before .before .before .before .before .before .before .before .before .before in
+    let r = room-n _ _ (start .pre) _ _ _ _ (loop .inv (start .pre)) (sym (chosen .comes-first .ensures) ∙ c .before .before .before .before .before .if2 .taken) in
+    omega (arith, r .0, merging-length _ _ (start .pre) _ _ _ _ (loop .inv (start .pre)), start .good)
 
 loop-less : tie.Need-loop-less Inv-loop μ-loop
-loop-less c = omega (arith, c .before .before .before .before .before .before .before .before .before .loop-test .taken)
+loop-less c =
+    let chosen = c .before .before .before .before .before .before in
+    let loop = chosen .before .before .before .before .loop in
+    let start = chosen .before .before .before .before .before .before .before .before .before .before .before in
+    less-n _ _ (start .pre) _ _ _ _ (loop .inv (start .pre)) (sym (chosen .comes-first .ensures) ∙ c .before .before .before .before .before .if2 .taken) _ (c .next-lowered2 .ensures)
 
 loop-again : tie.Need-loop-again Inv-loop μ-loop
-loop-again c = let k = c .before .before .before .before .before .before .before .before .before .before .loop in let a = c .before .before .before .before .before .before .before .before .before .before .before .before .before .before .before .before .before .before in merging-first (rowsOf (a .args .nfirsts .now) (a .args .nlasts .now) (a .args .nmarks .now)) (rowsOf (a .args .ofirsts .now) (a .args .olasts .now) (a .args .omarks .now)) (a .args .out .now) (a .pre .space) (k .out) (k .i) (k .j) (k .inv) (c .before .before .before .before .before .before .before .before .before .loop-test .taken) (sym (c .before .before .before .before .before .before .before .before .comes-first .ensures) ∙ c .before .before .before .before .before .before .before .if1 .taken) _ (c .before .before .write-row .ensures)
+loop-again c =
+    let chosen = c .before .before .before .before .before .before in
+    let loop = chosen .before .before .before .before .loop in
+    let start = chosen .before .before .before .before .before .before .before .before .before .before .before in
+    λ space. merging-n _ _ space _ _ _ _ (loop .inv space) (sym (chosen .comes-first .ensures) ∙ c .before .before .before .before .before .if2 .taken) _ (c .before .before .before .write-stretch .ensures) _ (c .next-lowered2 .ensures)
 
-mul-write-row-3 : tie.Need-mul-write-row-3 Inv-loop μ-loop
-mul-write-row-3 c = let k = c .before .before .before .before .loop in let a = c .before .before .before .before .before .before .before .before .before .before .before .before in let t = second-there (a .args .nfirsts .now) (a .args .ofirsts .now) (k .i) (k .j) (k .inv .within .0) (c .before .before .before .loop-test .taken) (sym (c .before .before .comes-first .ensures) ∙ c .before .if1 .left) in omega (arith, a .pre .lastO, a .pre .markO, a .good, t)
+write-stretch-requires-2 : tie.Need-write-stretch-requires-2 Inv-loop μ-loop
+write-stretch-requires-2 c κs =
+    let chosen = c .before .before in
+    let loop = chosen .before .before .before .before .loop in
+    let start = chosen .before .before .before .before .before .before .before .before .before .before .before in
+    let r = room-o _ _ (start .pre) _ _ _ _ (loop .inv (start .pre)) (chosen .before .if1 .taken) (sym (chosen .comes-first .ensures) ∙ c .before .if2 .left) in
+    (r .0, search needs, r .1, r .2)
 
-shared-slice-read-write-row-4 : tie.Need-shared-slice-read-write-row-4 Inv-loop μ-loop
-shared-slice-read-write-row-4 c = let k = c .before .before .before .before .before .loop in let a = c .before .before .before .before .before .before .before .before .before .before .before .before .before in let t = second-there (a .args .nfirsts .now) (a .args .ofirsts .now) (k .i) (k .j) (k .inv .within .0) (c .before .before .before .before .loop-test .taken) (sym (c .before .before .before .comes-first .ensures) ∙ c .before .before .if1 .left) in omega (arith, a .pre .lastO, a .pre .markO, a .good, t)
+next-occupied-requires-2 : tie.Need-next-occupied-requires-2 Inv-loop μ-loop
+next-occupied-requires-2 c κs = search needs
 
-mul-write-row-4 : tie.Need-mul-write-row-4 Inv-loop μ-loop
-mul-write-row-4 c = let k = c .before .before .before .before .before .loop in let a = c .before .before .before .before .before .before .before .before .before .before .before .before .before in let t = second-there (a .args .nfirsts .now) (a .args .ofirsts .now) (k .i) (k .j) (k .inv .within .0) (c .before .before .before .before .loop-test .taken) (sym (c .before .before .before .comes-first .ensures) ∙ c .before .before .if1 .left) in omega (arith, a .pre .lastO, a .pre .markO, a .good, t)
-
-shared-slice-read-write-row-5 : tie.Need-shared-slice-read-write-row-5 Inv-loop μ-loop
-shared-slice-read-write-row-5 c = let k = c .before .before .before .before .before .before .loop in let a = c .before .before .before .before .before .before .before .before .before .before .before .before .before .before in let t = second-there (a .args .nfirsts .now) (a .args .ofirsts .now) (k .i) (k .j) (k .inv .within .0) (c .before .before .before .before .before .loop-test .taken) (sym (c .before .before .before .before .comes-first .ensures) ∙ c .before .before .before .if1 .left) in omega (arith, a .pre .lastO, a .pre .markO, a .good, t)
-
-shared-slice-read-write-row-6 : tie.Need-shared-slice-read-write-row-6 Inv-loop μ-loop
-shared-slice-read-write-row-6 c = let k = c .before .before .before .before .before .before .before .loop in let a = c .before .before .before .before .before .before .before .before .before .before .before .before .before .before .before in let t = second-there (a .args .nfirsts .now) (a .args .ofirsts .now) (k .i) (k .j) (k .inv .within .0) (c .before .before .before .before .before .before .loop-test .taken) (sym (c .before .before .before .before .before .comes-first .ensures) ∙ c .before .before .before .before .if1 .left) in omega (arith, a .pre .lastO, a .pre .markO, a .good, t)
-
-write-row-requires-2 : tie.Need-write-row-requires-2 Inv-loop μ-loop
-write-row-requires-2 c κs = let k = c .before .before .before .before .before .before .before .loop in let a = c .before .before .before .before .before .before .before .before .before .before .before .before .before .before .before in let t = second-there (a .args .nfirsts .now) (a .args .ofirsts .now) (k .i) (k .j) (k .inv .within .0) (c .before .before .before .before .before .before .loop-test .taken) (sym (c .before .before .before .before .before .comes-first .ensures) ∙ c .before .before .before .before .if1 .left) in omega (arith, merging-length (rowsOf (a .args .nfirsts .now) (a .args .nlasts .now) (a .args .nmarks .now)) (rowsOf (a .args .ofirsts .now) (a .args .olasts .now) (a .args .omarks .now)) (a .args .out .now) (a .pre .space) (k .out) (k .i) (k .j) (k .inv), a .pre .space, k .inv .within .0, k .inv .within .1, t)
-
-add-j : tie.Need-add-j Inv-loop μ-loop
-add-j c = let k = c .before .before .before .before .before .before .before .before .before .before .loop in let a = c .before .before .before .before .before .before .before .before .before .before .before .before .before .before .before .before .before .before in omega (arith, k .inv .within .0, k .inv .within .1, a .pre .space, a .good)
+add-at-2 : tie.Need-add-at-2 Inv-loop μ-loop
+add-at-2 c =
+    let chosen = c .before .before .before .before .before .before in
+    let loop = chosen .before .before .before .before .loop in
+    let start = chosen .before .before .before .before .before .before .before .before .before .before .before in
+    let r = room-o _ _ (start .pre) _ _ _ _ (loop .inv (start .pre)) (chosen .before .if1 .taken) (sym (chosen .comes-first .ensures) ∙ c .before .before .before .before .before .if2 .left) in
+    omega (arith, r .0, merging-length _ _ (start .pre) _ _ _ _ (loop .inv (start .pre)), start .good)
 
 loop-less-2 : tie.Need-loop-less-2 Inv-loop μ-loop
-loop-less-2 c = omega (arith, c .before .before .before .before .before .before .before .before .before .loop-test .taken)
+loop-less-2 c =
+    let chosen = c .before .before .before .before .before .before in
+    let loop = chosen .before .before .before .before .loop in
+    let start = chosen .before .before .before .before .before .before .before .before .before .before .before in
+    less-o _ _ (start .pre) _ _ _ _ (loop .inv (start .pre)) (chosen .before .if1 .taken) (sym (chosen .comes-first .ensures) ∙ c .before .before .before .before .before .if2 .left) _ (c .next-occupied2 .ensures)
 
 loop-again-2 : tie.Need-loop-again-2 Inv-loop μ-loop
-loop-again-2 c = let k = c .before .before .before .before .before .before .before .before .before .before .loop in let a = c .before .before .before .before .before .before .before .before .before .before .before .before .before .before .before .before .before .before in merging-second (rowsOf (a .args .nfirsts .now) (a .args .nlasts .now) (a .args .nmarks .now)) (rowsOf (a .args .ofirsts .now) (a .args .olasts .now) (a .args .omarks .now)) (a .args .out .now) (a .pre .space) (k .out) (k .i) (k .j) (k .inv) (c .before .before .before .before .before .before .before .before .before .loop-test .taken) (sym (c .before .before .before .before .before .before .before .before .comes-first .ensures) ∙ c .before .before .before .before .before .before .before .if1 .left) _ (c .before .before .write-row2 .ensures)
+loop-again-2 c =
+    let chosen = c .before .before .before .before .before .before in
+    let loop = chosen .before .before .before .before .loop in
+    let start = chosen .before .before .before .before .before .before .before .before .before .before .before in
+    λ space. merging-o _ _ space _ _ _ _ (loop .inv space) (chosen .before .if1 .taken) (sym (chosen .comes-first .ensures) ∙ c .before .before .before .before .before .if2 .left) _ (c .before .before .before .write-stretch2 .ensures) _ (c .next-occupied2 .ensures)
 
 same-length : tie.Need-same-length Inv-loop μ-loop
-same-length c = let k = c .before .loop in let a = c .before .before .before .before .before .before .before .before .before in merging-length (rowsOf (a .args .nfirsts .now) (a .args .nlasts .now) (a .args .nmarks .now)) (rowsOf (a .args .ofirsts .now) (a .args .olasts .now) (a .args .omarks .now)) (a .args .out .now) (a .pre .space) (k .out) (k .i) (k .j) (k .inv)
+same-length c =
+    let loop = c .before .before .before .loop in
+    let start = c .before .before .before .before .before .before .before .before .before .before in
+    merging-length _ _ (start .pre) _ _ _ _ (loop .inv (start .pre))
 
 returns : tie.Need-returns Inv-loop μ-loop
-returns c = let k = c .before .loop in let a = c .before .before .before .before .before .before .before .before .before in merging-end (rowsOf (a .args .nfirsts .now) (a .args .nlasts .now) (a .args .nmarks .now)) (rowsOf (a .args .ofirsts .now) (a .args .olasts .now) (a .args .omarks .now)) (a .args .out .now) (k .out) (k .i) (k .j) (k .inv) (c .loop-test .left)
+returns c =
+    let loop = c .before .before .before .loop in
+    let start = c .before .before .before .before .before .before .before .before .before .before in
+    merging-end _ _ (start .pre) _ _ _ _ (loop .inv (start .pre)) (c .if1 .left)
 
 pub write-rows-spec : {M : Type 1} → statement M
 write-rows-spec =
@@ -99,28 +121,20 @@ write-rows-spec =
     (tie.spec
     Inv-loop
     μ-loop
+    start-requires
+    next-lowered-requires
+    start-requires-2
+    next-occupied-requires
     loop-holds
-    add-loop
-    add-loop-2
-    add-at
-    mul-at
     comes-first-requires
-    mul-write-row
-    shared-slice-read-write-row
-    mul-write-row-2
-    shared-slice-read-write-row-2
-    shared-slice-read-write-row-3
-    write-row-requires
-    add-i
+    write-stretch-requires
+    next-lowered-requires-2
+    add-at
     loop-less
     loop-again
-    mul-write-row-3
-    shared-slice-read-write-row-4
-    mul-write-row-4
-    shared-slice-read-write-row-5
-    shared-slice-read-write-row-6
-    write-row-requires-2
-    add-j
+    write-stretch-requires-2
+    next-occupied-requires-2
+    add-at-2
     loop-less-2
     loop-again-2
     same-length

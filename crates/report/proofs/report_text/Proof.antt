@@ -1,0 +1,102 @@
+-- `report::report_text` meets its contract: the stretches counted, merged and written, or no space for them. Assumes nothing.
+use native.Mathlib.Omega.{arith}
+use Rattle.report.proofs.Answers.{counted-few, counted-space, run-written, run-none}
+use borrow.Author.Needs.{needs}
+use Rattle.report.proofs.report_text.Statement.{statement}
+use Rattle.report.proofs.report_text.Tie as tie
+
+tally-lowered-requires : tie.Need-tally-lowered-requires
+tally-lowered-requires c κs = search needs
+
+tally-occupied-requires : tie.Need-tally-occupied-requires
+tally-occupied-requires c κs = search needs
+
+add-end : tie.Need-add-end
+add-end c =
+    let counted = c .before .before in
+    let start = counted .before .before .before .before in
+    let few = counted-few _ _ _ (counted .before .tally-lowered .ensures) (counted .tally-occupied .ensures) in
+    omega (arith, few .0, few .1, few .2, start .pre .0)
+
+mul-end : tie.Need-mul-end
+mul-end c =
+    let counted = c .before .before in
+    let start = counted .before .before .before .before in
+    let few = counted-few _ _ _ (counted .before .tally-lowered .ensures) (counted .tally-occupied .ensures) in
+    omega (arith, few .0, few .1, few .2, start .pre .0)
+
+add-if1 : tie.Need-add-if1
+add-if1 c =
+    let counted = c .before .before in
+    let start = counted .before .before .before .before in
+    let few = counted-few _ _ _ (counted .before .tally-lowered .ensures) (counted .tally-occupied .ensures) in
+    omega (arith, few .0, few .1, few .2, start .pre .0)
+
+write-rows-requires : tie.Need-write-rows-requires
+write-rows-requires c κs =
+    let counted = c .before .before .before .before in
+    let start = counted .before .before .before .before in
+    counted-space _ _ _ (counted .before .tally-lowered .ensures) (counted .tally-occupied .ensures) _ (start .pre .0) (c .before .if1 .taken)
+
+cast-write-row : tie.Need-cast-write-row
+cast-write-row c =
+    let counted = c .before .before .before .before .before .before .before .before .before in
+    let start = counted .before .before .before .before in
+    let few = counted-few _ _ _ (counted .before .tally-lowered .ensures) (counted .tally-occupied .ensures) in
+    omega (arith, few .0, few .1, few .2, start .pre .0)
+
+cast-write-row-2 : tie.Need-cast-write-row-2
+cast-write-row-2 c =
+    let counted = c .before .before .before .before .before .before .before .before .before .before in
+    let start = counted .before .before .before .before in
+    let few = counted-few _ _ _ (counted .before .tally-lowered .ensures) (counted .tally-occupied .ensures) in
+    omega (arith, few .0, few .1, few .2, start .pre .0)
+
+write-row-requires : tie.Need-write-row-requires
+write-row-requires c κs = search needs
+
+add-written : tie.Need-add-written
+add-written c = search needs
+
+written-requires : tie.Need-written-requires
+written-requires c κs = search needs
+
+too-short-requires : tie.Need-too-short-requires
+too-short-requires c κs = search needs
+
+same-length : tie.Need-same-length
+same-length c = search needs
+
+returns : tie.Need-returns
+returns c =
+    let rows = c .before .before .before .before .before .before .before .before .before in
+    let counted = rows .before .before .before .before .before in
+    let start = counted .before .before .before .before in
+    run-written _ _ _ (counted .before .tally-lowered .ensures) (counted .tally-occupied .ensures) (start .pre .1) _ _
+    (rows .before .before .if1 .taken) _ _ (rows .write-rows .ensures) (c .before .before .before .write-row .ensures) (c .written .ensures)
+
+returns-2 : tie.Need-returns-2
+returns-2 c =
+    let counted = c .before .before .before .before in
+    let start = counted .before .before .before .before in
+    run-none _ _ _ (counted .before .tally-lowered .ensures) (counted .tally-occupied .ensures) (start .pre .1) _ _ (c .before .if1 .left) (c .too-short .ensures)
+
+pub report-text-spec : {M : Type 1} → statement M
+report-text-spec =
+    tie.close
+    (tie.spec
+    tally-lowered-requires
+    tally-occupied-requires
+    add-end
+    mul-end
+    add-if1
+    write-rows-requires
+    cast-write-row
+    cast-write-row-2
+    write-row-requires
+    add-written
+    written-requires
+    too-short-requires
+    same-length
+    returns
+    returns-2)

@@ -1,0 +1,4 @@
+pub mod Stretches
+pub mod Walk
+pub mod Figures
+pub mod Texts
