@@ -9,7 +9,9 @@
 // records just long enough, one byte shorter, longer and of any length: every answer, every byte, and how many are used. Records
 // of the accepted steps, whole and damaged, through `weqhaso_read`: number and line; and through `weqhaso_report`, into buffers
 // just long enough, one byte shorter, and longer: every byte, and how many are used. Long records about the longest text that is
-// reported, 65,535 bytes. Ten million clock steps, up to the last instant. A mismatch prints the input that shows it.
+// reported, 65,535 bytes. The stretches of these records and of some that are several times as long, one by one through
+// `weqhaso_start`, `weqhaso_next_lowered` and `weqhaso_next_occupied`, and the instants of `weqhaso_below`. Ten million clock
+// steps, up to the last instant. A mismatch prints the input that shows it.
 //
 // The library keeps two trains beside its table, the soonest due one and the coming one that is first at its latest; the second
 // program looks through the whole table each time. So there are also lists made for these two trains to change hands at nearly
@@ -20,8 +22,9 @@
 mod second;
 
 use second::{
-    check, read, record_line, record_of, report, report_into, ticks_for, Bench, Recorder, Standing,
-    K, LAST_INSTANT, LAST_LINE, LINE_BYTES, LONGEST_TEXT,
+    angles_of, check, lowered_runs, occupied_stretches, read, record_line, record_of, report,
+    report_into, ticks_for, Bench, Recorder, Standing, Stretch, FULL, K, LAST_INSTANT, LAST_LINE,
+    LINE_BYTES, LONGEST_TEXT,
 };
 
 extern "C" {
@@ -86,10 +89,28 @@ extern "C" {
     ) -> u64;
     fn weqhaso_read(text: *const u8, len: usize) -> u64;
     fn weqhaso_report(text: *const u8, len: usize, out: *mut u8, out_len: usize) -> u64;
+    fn weqhaso_start(places: *mut usize, places_len: usize) -> u8;
+    fn weqhaso_next_lowered(
+        text: *const u8,
+        len: usize,
+        places: *mut usize,
+        places_len: usize,
+    ) -> u8;
+    fn weqhaso_next_occupied(
+        text: *const u8,
+        len: usize,
+        places: *mut usize,
+        places_len: usize,
+    ) -> u8;
+    fn weqhaso_below(text: *const u8, len: usize) -> usize;
 }
+
+// One of the two functions that give the next stretch.
+type Next = unsafe extern "C" fn(*const u8, usize, *mut usize, usize) -> u8;
 
 const STEPS: u64 = 300_000;
 const LONG_TEXTS: u32 = 60;
+const LONGER_TEXTS: u32 = 40;
 const HAND_LISTS: u32 = 1_500;
 const FULL_YARDS: u32 = 100;
 const WHOLE: u64 = 99;
@@ -547,11 +568,75 @@ fn same_report(r: &mut Random, text: &[u8], bytes: usize) -> bool {
     same
 }
 
-// The verdict on a text and its reports in buffers that fit, are one byte short, and longer: how many differ.
+// The stretches that the library gives one by one from the first step on, where it keeps to its seven places.
+fn walked(r: &mut Random, text: &[u8], next: Next) -> Option<Vec<Stretch>> {
+    let mut places: Vec<usize> = (0..9).map(|_| r.next() as usize).collect();
+    let behind = places[7..].to_vec();
+    let few = places[..6].to_vec();
+    if unsafe { weqhaso_start(places.as_mut_ptr(), 6) } != 14
+        || unsafe { next(text.as_ptr(), text.len(), places.as_mut_ptr(), 6) } != 14
+        || places[..6] != few
+        || unsafe { weqhaso_start(places.as_mut_ptr(), places.len()) } != 0
+        || places[..7] != [120, 0, 0, 0, 0, 0, 0]
+    {
+        return None;
+    }
+    let mut stretches = Vec::new();
+    loop {
+        let cursor = places[..4].to_vec();
+        let number = unsafe {
+            next(
+                text.as_ptr(),
+                text.len(),
+                places.as_mut_ptr(),
+                7 + r.below(3) as usize,
+            )
+        };
+        // a cursor goes on, or stays where nothing is found
+        let found = places[4];
+        let goes_on = cursor[0] < places[0] && places[0] <= text.len();
+        let stays = cursor == places[..4] && places[5..7] == [0, 0];
+        let kept = if found == 0 { stays } else { goes_on };
+        if number != 0 || found > 2 || !kept || places[7..] != behind {
+            return None;
+        }
+        if found == 0 {
+            return Some(stretches);
+        }
+        stretches.push(Stretch {
+            first: places[5] as u32,
+            last: places[6] as u32,
+            running: found == 2,
+        });
+    }
+}
+
+// Whether the library gives the stretches of an accepted text as the second program has them, and the instants below 90 degrees;
+// on a refused text it only has to come to an end.
+fn same_stretches(r: &mut Random, text: &[u8]) -> bool {
+    let lowered = walked(r, text, weqhaso_next_lowered);
+    let occupied = walked(r, text, weqhaso_next_occupied);
+    let below = unsafe { weqhaso_below(text.as_ptr(), text.len()) };
+    let Ok(run) = read(text) else {
+        return lowered.is_some() && occupied.is_some();
+    };
+    let angles = angles_of(&run);
+    let want_below = angles.iter().filter(|(_, angle)| *angle < FULL).count();
+    let same = lowered == Some(lowered_runs(&angles))
+        && occupied == Some(occupied_stretches(&run))
+        && below == want_below;
+    if !same {
+        println!("stretches: {lowered:?}, {occupied:?}, {below} below 90 degrees got");
+        println!("{}", String::from_utf8_lossy(text));
+    }
+    same
+}
+
+// The verdict on a text, its stretches, and its reports in buffers that fit, are one byte short, and longer: how many differ.
 fn text_differs(q: &mut Random, text: &[u8]) -> u32 {
     let used = report(text, usize::MAX).map_or(0, |lines| lines.len());
     let more = used + 1 + q.below(40) as usize;
-    let mut differ = !same_text(text) as u32;
+    let mut differ = !same_text(text) as u32 + !same_stretches(q, text) as u32;
     for bytes in [used, used - 1, more] {
         differ += !same_report(q, text, bytes) as u32;
     }
@@ -575,6 +660,19 @@ fn long_text(r: &mut Random) -> Vec<u8> {
             _ => {}
         }
         return text;
+    }
+}
+
+// A record longer than any that is reported.
+fn longer_text(r: &mut Random) -> Vec<u8> {
+    loop {
+        let s = settings(r);
+        let least = 20_000 + r.below(20_000);
+        let list = steps(r, &s, least);
+        match record_of(&s, &list.accepted, 2_000_000) {
+            Ok((text, _)) if text.len() > LONGEST_TEXT => return text,
+            _ => continue,
+        }
     }
 }
 
@@ -989,6 +1087,13 @@ fn main() {
         texts += 1;
         differ += text_differs(&mut p, &text);
     }
+    let mut longest = 0;
+    for _ in 0..LONGER_TEXTS {
+        let text = longer_text(&mut p);
+        texts += 1;
+        longest = longest.max(text.len());
+        differ += text_differs(&mut p, &text);
+    }
     let mut hands = Hands::default();
     for i in 0..HAND_LISTS + FULL_YARDS {
         let (s, list) = handed_over(&mut h, &mut hands, i >= HAND_LISTS);
@@ -1002,7 +1107,7 @@ fn main() {
     differ += !same_clock(&K) as u32;
     let reports = 3 * texts;
     println!(
-        "{tried} steps, {states} final states, {records} recordings, {texts} texts and {reports} reports, {lists} lists in which the kept trains change hands, {differ} differ"
+        "{tried} steps, {states} final states, {records} recordings, {texts} texts (the longest has {longest} bytes) with their stretches and {reports} reports, {lists} lists in which the kept trains change hands, {differ} differ"
     );
     std::process::exit((differ > 0) as i32);
 }

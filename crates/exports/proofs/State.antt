@@ -22,7 +22,7 @@ use Rattle.runs.proofs.Slices.{Filled, filled-none, filled-next, filled-all}
 use Rattle.exports.specs.State.{standingNumber, trainNumbers, benchNumbers, StateAnswered}
 
 -- the first four places
-pub four-filled : (old rest : List ℕ) (a b c d : ℕ) → 196 ≤ length old → Filled old (set (set (set (set old 0 a) 1 b) 2 c) 3 d) 4 rest (a ∷ b ∷ c ∷ d ∷ rest)
+pub four-filled : (old rest : List ℕ) (a b c d : ℕ) → 4 ≤ length old → Filled old (set (set (set (set old 0 a) 1 b) 2 c) 3 d) 4 rest (a ∷ b ∷ c ∷ d ∷ rest)
 four-filled old rest a b c d h =
     filled-next old (set (set (set old 0 a) 1 b) 2 c) 3 d rest _ (rw (length-set, length-set, length-set) (omega arith))
     (filled-next old (set (set old 0 a) 1 b) 2 c _ _ (rw (length-set, length-set) (omega arith))

@@ -5,12 +5,20 @@ ghost use lib.ListN.{length};
 ghost use Rattle.runs.specs.Run.{stepsOf, over, runRefusal};
 ghost use Rattle.recording.specs.RunRecorded.{recordRefusal};
 ghost use Rattle.reader.specs.Read.{readText};
+ghost use Rattle.stretches.specs.declared.Sort.the-variants.{Lowered, Occupied};
+ghost use Rattle.stretches.specs.Walk.{startCursor, nothingFrom, stretchesAhead};
+ghost use Rattle.stretches.specs.Figures.{total};
 ghost use Rattle.report.specs.Report.{reportOf};
 ghost use Rattle.exports.specs.Exports.{settingsOf, Answered, RecordAnswered, packed, Reports};
 ghost use Rattle.exports.specs.State.{commandNumber, standingNumber, benchNumbers, stateRefusal, StateAnswered};
+ghost use Rattle.exports.specs.Places.{cursorOf, cursorIn, flag, foundNumber, nextNumbers, nextFrom, Placed};
 use arm::Command;
 use bench::Bench;
 use settings::Settings;
+use stretches::Cursor;
+use stretches::Next;
+use stretches::Sort;
+use stretches::Stretch;
 use trains::Standing;
 
 fn settings_of(e: u32, f: u32, p: u32, q: u32, w: u32, x: u32, y: u32) -> Settings
@@ -188,4 +196,109 @@ pub extern "C" fn weqhaso_report(text: &[u8], out: &mut [u8]) -> u64
     let v = r.verdict;
     let bytes = r.bytes as u64;
     (bytes % 72057594037927936) * 256 + (settings::number(v) as u64)
+}
+
+fn cursor_of(at: usize, now: usize, low: usize, inside: usize) -> Cursor
+    ensures { λ r. ⌜ r ≡ cursorOf at now low inside ⌝ }
+{
+    Cursor {
+        at: at,
+        now: now,
+        low: 0 < low,
+        inside: inside,
+    }
+}
+
+fn flag_of(b: bool) -> usize
+    ensures { λ r. ⌜ r ≡ flag b ⌝ }
+{
+    if b { 1 } else { 0 }
+}
+
+// 0 none, 1 ended, 2 running.
+fn found_number(found: bool, running: bool) -> usize
+    ensures { λ r. ⌜ r ≡ foundNumber found running ⌝ }
+{
+    if found {
+        if running { 2 } else { 1 }
+    } else {
+        0
+    }
+}
+
+// An answer by numbers: its cursor's place, instant, whether the arm is below 90 degrees, and trains inside; what is found, its first and its last instant.
+fn write_next(n: Next, places: &mut [usize])
+    requires { ⌜ 7 ≤ length (now places) ⌝ }
+    ensures { λ _. ⌜ now (places .exit) ≡ over (nextNumbers n) (now (places .entry)) ⌝ }
+{
+    let c = n.cursor;
+    let x = n.stretch;
+    places[0] = c.at;
+    places[1] = c.now;
+    places[2] = flag_of(c.low);
+    places[3] = c.inside;
+    places[4] = found_number(n.found, x.running);
+    places[5] = x.first;
+    places[6] = x.last;
+}
+
+// The next answer from the cursor in the first four places on, in their place.
+fn next_into(which: Sort, text: &[u8], places: &mut [usize]) -> u8
+    ensures { λ r. ⌜ Placed (nextNumbers (nextFrom which (now (text .entry)) (cursorIn (now (places .entry))))) (now (places .entry)) r (now (places .exit)) ⌝ }
+{
+    if places.len() < 7 {
+        return 14;
+    }
+    let c = cursor_of(places[0], places[1], places[2], places[3]);
+    let n = stretches::next_of(which, text, c);
+    write_next(n, places);
+    0
+}
+
+// The cursor before the first step of a text (`stretches::start`), in the first four of seven places, and nothing found in the other three:
+// 0, or 14 where there are fewer places.
+#[no_mangle]
+pub extern "C" fn weqhaso_start(places: &mut [usize]) -> u8
+    ensures { λ r. ⌜ Placed (nextNumbers (nothingFrom startCursor)) (now (places .entry)) r (now (places .exit)) ⌝ }
+{
+    if places.len() < 7 {
+        return 14;
+    }
+    let n = Next {
+        found: false,
+        stretch: Stretch {
+            first: 0,
+            last: 0,
+            running: false,
+        },
+        cursor: stretches::start(),
+    };
+    write_next(n, places);
+    0
+}
+
+// The next stretch with the arm below 90 degrees (`stretches::next_lowered`), from the cursor in the first four places on: the cursor after it there,
+// and in the other three 0 none, 1 ended or 2 running, its first and its last instant. 0, or 14 where there are fewer places.
+#[no_mangle]
+pub extern "C" fn weqhaso_next_lowered(text: &[u8], places: &mut [usize]) -> u8
+    ensures { λ r. ⌜ Placed (nextNumbers (nextFrom Lowered (now (text .entry)) (cursorIn (now (places .entry))))) (now (places .entry)) r (now (places .exit)) ⌝ }
+{
+    next_into(Sort::Lowered, text, places)
+}
+
+// The next stretch with some train inside (`stretches::next_occupied`), in the same way.
+#[no_mangle]
+pub extern "C" fn weqhaso_next_occupied(text: &[u8], places: &mut [usize]) -> u8
+    ensures { λ r. ⌜ Placed (nextNumbers (nextFrom Occupied (now (text .entry)) (cursorIn (now (places .entry))))) (now (places .entry)) r (now (places .exit)) ⌝ }
+{
+    next_into(Sort::Occupied, text, places)
+}
+
+// The instants below 90 degrees of an accepted text (`stretches::tally_lowered`).
+#[no_mangle]
+pub extern "C" fn weqhaso_below(text: &[u8]) -> usize
+    ensures { λ r. ⌜ r ≡ total (stretchesAhead Lowered (now (text .entry)) startCursor) ⌝ }
+{
+    let n = stretches::tally_lowered(text);
+    n.instants
 }

@@ -93,7 +93,7 @@ same-length : tie.Need-same-length Inv-loop μ-loop
 same-length c =
     let k = c .before .loop in
     let a = c .before .before .before .before .before .before .before .before .before in
-    k .inv .same-length ∙ four-filled (a .args .state .now) [] _ _ _ _ (a .pre) .same-length
+    k .inv .same-length ∙ four-filled (a .args .state .now) [] _ _ _ _ (omega (arith, a .pre)) .same-length
 
 returns : tie.Need-returns Inv-loop μ-loop
 unfolding benchNumbers
@@ -102,7 +102,7 @@ returns c =
     let a = c .before .before .before .before .before .before .before .before .before in
     rw (← (c .before .before .command-number .ensures))
     (writing-end (a .args .b .table) _ (four-long (a .args .state .now) _ _ _ _ (a .pre)) (k .state) (k .n) (k .i) (k .inv) (omega (arith, c .loop-test .left)) (a .args .state .now) _
-    (four-filled (a .args .state .now) _ _ _ _ _ (a .pre)))
+    (four-filled (a .args .state .now) _ _ _ _ _ (omega (arith, a .pre))))
 
 pub write-bench-spec : {M : Type 1} → statement M
 write-bench-spec =
