@@ -15,7 +15,8 @@ use Rattle.runs.specs.declared.Step.{Step}
 use Rattle.runs.specs.declared.Finished.{Finished}
 use Rattle.runs.specs.Run.{finishedBy, written, Ran}
 use Rattle.record.specs.declared.Recorded.{Recorded}
-use Rattle.record.specs.Text.{text}
+use Rattle.lines.specs.Layout.{lineBytes}
+use Rattle.record.specs.Text.{current, text}
 use Rattle.record.specs.Recorder.{startAnswer}
 use Rattle.record.specs.Recording.{begun, recordedAfter, runSoFar}
 use Rattle.recording.specs.RunRecorded.{recordedRun, recordedBytes, RunRecorded}
@@ -49,10 +50,10 @@ module _ (s : Settings) (xs : List Step) (d : List ℕ) where
 
   -- the text of the run that is recorded
   abbrev recorded : List ℕ
-  recorded = text s (runSoFar s (length d) [] xs)
+  recorded = text current s (runSoFar s (length d) [] xs)
 
   -- its end is the end of the record, and within it
-  end-recorded : (k : ℕ) → k ≡ 0 → startAnswer s d ≡ Taken Nothing → (recordedRun k s d xs .recorder .at + 15 ≡ length recorded) × (length recorded ≤ length d)
+  end-recorded : (k : ℕ) → k ≡ 0 → startAnswer s d ≡ Taken Nothing → (recordedRun k s d xs .recorder .at + lineBytes current ≡ length recorded) × (length recorded ≤ length d)
   end-recorded k z a = rw z (ends-always s d xs a)
 
   -- what the record holds is the text, and after it the bytes that were there
@@ -60,8 +61,8 @@ module _ (s : Settings) (xs : List Step) (d : List ℕ) where
   bytes-recorded zero a =
       let w = recordedAfter (begun s d) xs in
       let keeps = keeps-always s d xs (a refl) in
-      let end : w .recorder .at + 15 ≡ length recorded = ends-always s d xs (a refl) .0 in
-      sym (take-append-drop (w .recorder .at + 15) (w .bytes)) ∙ rw (keeps .written, keeps .others, end)
+      let end : w .recorder .at + lineBytes current ≡ length recorded = ends-always s d xs (a refl) .0 in
+      sym (take-append-drop (w .recorder .at + lineBytes current) (w .bytes)) ∙ rw (keeps .written, keeps .others, end)
   bytes-recorded (suc k) a = refl
 
   -- its bytes, or none
@@ -75,11 +76,11 @@ module _ (s : Settings) (xs : List Step) (k : ℕ) (r : Recorded) (answers answe
   number-is = numbered ∙ ap (λ (g : Recorded). cabinet.numberOf (g .answer)) (ran .gives) ∙ number-recorded s xs d k
 
   -- the end of a record that is taken is the end of its text
-  pub record-end : n ≡ 0 → (r .recorder .at + 15 ≡ length (recorded s xs d)) × (length (recorded s xs d) ≤ length d)
+  pub record-end : n ≡ 0 → (r .recorder .at + lineBytes current ≡ length (recorded s xs d)) × (length (recorded s xs d) ≤ length d)
   record-end z = let zero-k = sym number-is ∙ z in rw (ran .gives) (end-recorded s xs d k zero-k (starts zero-k))
 
   -- a recording that was answered by its bytes and its number
-  pub record-answered : (bytes : ℕ) → ((n ≡ 0) × (bytes ≡ r .recorder .at + 15)) ⊎ ((n ≡ 0 → ⊥) × (bytes ≡ 0)) →
+  pub record-answered : (bytes : ℕ) → ((n ≡ 0) × (bytes ≡ r .recorder .at + lineBytes current)) ⊎ ((n ≡ 0 → ⊥) × (bytes ≡ 0)) →
       RecordAnswered s xs k (pack bytes n) answers answersAfter d e
   record-answered bytes came =
       record {
@@ -88,7 +89,7 @@ module _ (s : Settings) (xs : List Step) (k : ℕ) (r : Recorded) (answers answe
         bytes = ran .leaves ∙ bytes-recorded s xs d k starts;
       }
     where
-      count : ((n ≡ 0) × (bytes ≡ r .recorder .at + 15)) ⊎ ((n ≡ 0 → ⊥) × (bytes ≡ 0)) → bytes ≡ bytesOf k (recorded s xs d)
+      count : ((n ≡ 0) × (bytes ≡ r .recorder .at + lineBytes current)) ⊎ ((n ≡ 0 → ⊥) × (bytes ≡ 0)) → bytes ≡ bytesOf k (recorded s xs d)
       count (inl x) = count-recorded s xs d k bytes (λ z. x .1 ∙ record-end (x .0) .0) (λ f. absurd (f (sym number-is ∙ x .0)))
       count (inr x) = count-recorded s xs d k bytes (λ z. absurd (x .0 (number-is ∙ z))) (λ f. x .1)
 

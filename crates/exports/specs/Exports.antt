@@ -10,7 +10,7 @@ use Rattle.runs.specs.declared.Step.{Step}
 use Rattle.runs.specs.History as rules
 use Rattle.runs.specs.Run.{written, orderLetter}
 use Rattle.runs.specs.Demand.{Demand3}
-use Rattle.record.specs.Text.{text}
+use Rattle.record.specs.Text.{current, text}
 use Rattle.record.specs.Recording.{recordVerdicts, runSoFar}
 use Rattle.lines.specs.Bytes.{fits, splice}
 use Rattle.reader.specs.declared.Outcome.{Outcome}
@@ -38,9 +38,9 @@ bytesOf (suc k) t = 0
 -- a recording of a list xs with this refusal number, in the record d: the record's bytes and the number are answered, what the rules say of the list is
 -- written beside it, and the text of its run into the record
 pub record RecordAnswered (s : Settings) (xs : List Step) (k r : ℕ) (answers answersAfter d e : List ℕ) : Type 0 where
-  pub number : r ≡ pack (bytesOf k (text s (runSoFar s (length d) [] xs))) k
+  pub number : r ≡ pack (bytesOf k (text current s (runSoFar s (length d) [] xs))) k
   pub numbered : answersAfter ≡ written k (recordVerdicts s (length d) [] xs) answers
-  pub bytes : e ≡ written k (text s (runSoFar s (length d) [] xs)) d
+  pub bytes : e ≡ written k (text current s (runSoFar s (length d) [] xs)) d
 
 -- the line, and the number
 abbrev pub packed : Outcome → ℕ

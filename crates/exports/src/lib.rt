@@ -4,6 +4,7 @@ ghost use Prim.Native.Nat.{_≤_};
 ghost use lib.ListN.{length};
 ghost use Rattle.runs.specs.Run.{stepsOf, over, runRefusal};
 ghost use Rattle.recording.specs.RunRecorded.{recordRefusal};
+ghost use Rattle.record.specs.Text.{current};
 ghost use Rattle.reader.specs.Read.{readText};
 ghost use Rattle.stretches.specs.declared.Sort.the-variants.{Lowered, Occupied};
 ghost use Rattle.stretches.specs.Walk.{startCursor, nothingFrom, stretchesAhead};
@@ -172,14 +173,15 @@ pub extern "C" fn weqhaso_record(
     let answer = r.answer;
     let recorder = r.recorder;
     let k = runs::number_byte(answer);
-    let bytes = if k == 0 { recorder.at + 15 } else { 0 };
+    let line = lines::line_bytes(record::CURRENT);
+    let bytes = if k == 0 { recorder.at + line } else { 0 };
     ((bytes as u64) % 72057594037927936) * 256 + (k as u64)
 }
 
 // The verdict on a record text (`reader::read`): 256 times the line at fault, and the refusal number; 0 where it is accepted.
 #[no_mangle]
 pub extern "C" fn weqhaso_read(text: &[u8]) -> u64
-    ensures { λ r. ⌜ r ≡ packed (readText (now (text .entry))) ⌝ }
+    ensures { λ r. ⌜ r ≡ packed (readText current (now (text .entry))) ⌝ }
 {
     let o = reader::read(text);
     let v = o.verdict;

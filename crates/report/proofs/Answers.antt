@@ -8,6 +8,7 @@ use borrow.Author.Tests.{le-leb, lt-leb}
 use Rattle.settings.specs.declared.Verdict.the-variants.{Taken}
 use Rattle.lines.specs.Bytes.{splice}
 use Rattle.lines.proofs.Splices.{splice-then}
+use Rattle.record.specs.Text.{current}
 use Rattle.reader.specs.Read.{readText}
 use Rattle.reader.specs.Round.{runOf}
 use Rattle.stretches.specs.declared.Tally.{Tally}
@@ -37,13 +38,13 @@ written-as {out = out} {after = after} {r = r} e w = subst (λ (l : List ℕ). W
 
 -- ---- a run's report
 
-module _ (t : List ℕ) (accepted : readText t .verdict ≡ Taken) where
+module _ (t : List ℕ) (accepted : readText current t .verdict ≡ Taken) where
   -- the rows, and Z after them, are its lines
-  pub report-lines : rowLines t ++ reportLine (length (os t)) (total (ns t)) 90 ≡ runReport (runOf t)
+  pub report-lines : rowLines t ++ reportLine (length (os t)) (total (ns t)) 90 ≡ runReport (runOf current t)
   unfolding runReport rowLines rowsIn
-  report-lines = rw (text-lowered t accepted, text-occupied t accepted, below-total (runOf t))
+  report-lines = rw (text-lowered t accepted, text-occupied t accepted, below-total (runOf current t))
 
-  pub report-bytes : length (runReport (runOf t)) ≡ 19 * rowsIn t + 19
+  pub report-bytes : length (runReport (runOf current t)) ≡ 19 * rowsIn t + 19
   report-bytes = ap length (sym report-lines) ∙ length-append (rowLines t) _ ∙ rw (rows-bytes t, length-row)
 
 -- as they are counted
@@ -66,22 +67,22 @@ module _ (t : List ℕ) (n o : Tally) (p : n ≡ tallied (ns t)) (q : o ≡ tall
   pub counted-space : (out : List ℕ) → length t ≤ 65535 → end + 19 ≤ length out → Space t out
   counted-space out h k = record { short = h; room = omega (arith, counted-rows) }
 
-  module _ (accepted : readText t .verdict ≡ Taken) (out : List ℕ) (a : Reported) where
-    counted-lines : rowLines t ++ reportLine (o .stretches) (n .instants) 90 ≡ runReport (runOf t)
+  module _ (accepted : readText current t .verdict ≡ Taken) (out : List ℕ) (a : Reported) where
+    counted-lines : rowLines t ++ reportLine (o .stretches) (n .instants) 90 ≡ runReport (runOf current t)
     counted-lines = rw (p, q) (report-lines t accepted)
 
-    counted-bytes : length (runReport (runOf t)) ≡ end + 19
+    counted-bytes : length (runReport (runOf current t)) ≡ end + 19
     counted-bytes = report-bytes t accepted ∙ rw counted-rows
 
     -- with the space for its lines, the report is written
     pub run-written : end + 19 ≤ length out → (e after : List ℕ) → e ≡ splice out 0 (rowLines t) →
-        after ≡ splice e end (reportLine (o .stretches) (n .instants) 90) → a ≡ writtenBytes (end + 19) → Written (runReport (runOf t)) out a after
+        after ≡ splice e end (reportLine (o .stretches) (n .instants) 90) → a ≡ writtenBytes (end + 19) → Written (runReport (runOf current t)) out a after
     run-written h e after s r k =
         let l = rows-bytes t in
         let m = counted-rows in
-        written-done (runReport (runOf t)) out (end + 19) counted-bytes h a k after
+        written-done (runReport (runOf current t)) out (end + 19) counted-bytes h a k after
         (r ∙ splice-then out 0 (rowLines t) end s (omega arith) (reportLine (o .stretches) (n .instants) 90) (omega (arith, length-row (o .stretches) (n .instants) 90)) ∙ ap (splice out 0) counted-lines)
 
     -- without it, nothing
-    pub run-none : length out < end + 19 → a ≡ shortBuffer → Written (runReport (runOf t)) out a out
-    run-none h k = written-none (runReport (runOf t)) out (end + 19) counted-bytes h a k
+    pub run-none : length out < end + 19 → a ≡ shortBuffer → Written (runReport (runOf current t)) out a out
+    run-none h k = written-none (runReport (runOf current t)) out (end + 19) counted-bytes h a k

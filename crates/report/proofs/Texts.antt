@@ -8,45 +8,45 @@ use lib.Dec.{ltb, leb, eqb}
 use lib.ListN.{length, drop}
 use borrow.Author.Tests.{lt-ltb, le-ltb}
 use Rattle.settings.specs.declared.Verdict.the-variants.{Taken, Refused}
-use Rattle.lines.specs.Line.{firstLine, lastLine}
+use Rattle.lines.specs.Layout.{lineBytes, firstLine, lastLine}
 use Rattle.lines.specs.Bytes.{starts}
-use Rattle.lines.specs.Scan.{scanned}
 use Rattle.reader.specs.declared.Outcome.{Outcome}
 use Rattle.reader.specs.declared.Progress.{Progress}
-use Rattle.reader.specs.Read.{begun, judged, counted, refusedAt, isNothing, endedBy, readFrom, noSettings, readText}
+use Rattle.record.specs.Text.{current, firstStep}
+use Rattle.reader.specs.Read.{begun, judged, counted, refusedAt, isNothing, endedBy, scanOf, readFrom, noSettings, readText}
 use Rattle.reader.specs.Round.{runOf}
 use Rattle.report.specs.Report.{refusalReport, reportOf, runReport}
 
 -- ---- how many lines a text has
 
 -- the line at fault is among the lines, or the one after them
-ended-line : (i n : ℕ) (p : Progress) (bytes : ℕ) → endedBy i n p bytes .line ≤ i + 1
+ended-line : (i n : ℕ) (p : Progress) (bytes : ℕ) → endedBy current i n p bytes .line ≤ i + 1
 unfolding endedBy
-ended-line i n p bytes = go (isNothing (p .due)) (ltb 15 bytes)
+ended-line i n p bytes = go (isNothing (p .due)) (ltb (lineBytes current) bytes)
   where
     go : (a b : Bool) → cond a (cond b (refusedAt 15 (i + 1) n p) (record { verdict = Taken; line = 0; steps = n; progress = p })) (refusedAt 16 i n p) .line ≤ i + 1
     go true true = omega arith
     go true false = omega arith
     go false b = omega arith
 
-line-few : (fuel i n : ℕ) (p : Progress) (s : List ℕ) → readFrom fuel i n p s .line ≤ i + fuel + 1
+line-few : (fuel i n : ℕ) (p : Progress) (s : List ℕ) → readFrom current fuel i n p s .line ≤ i + fuel + 1
 unfolding readFrom
 line-few zero i n p s = omega arith
 line-few (suc fuel) i n p s =
-    go (ltb (length s) 15) (leb 9 i && starts lastLine s) (scanned 4 s 15 .wrong) (eqb (judged i p (scanned 4 s 15) .refusal) 0)
-    (endedBy i n p (length s)) (readFrom fuel (suc i) (counted i (scanned 4 s 15) n) (judged i p (scanned 4 s 15) .progress) (drop 15 s)) (ended-line i n p (length s)) (line-few fuel (suc i) _ _ (drop 15 s))
+    go (ltb (length s) (lineBytes current)) (leb (firstStep current) i && starts (lastLine current) s) (scanOf current s .wrong) (eqb (judged current i p (scanOf current s) .refusal) 0)
+    (endedBy current i n p (length s)) (readFrom current fuel (suc i) (counted current i (scanOf current s) n) (judged current i p (scanOf current s) .progress) (drop (lineBytes current) s)) (ended-line i n p (length s)) (line-few fuel (suc i) _ _ (drop (lineBytes current) s))
   where
     go : (a b c d : Bool) (ended later : Outcome) → ended .line ≤ i + 1 → later .line ≤ suc i + fuel + 1 →
-        cond a (refusedAt 15 i n p) (cond b ended (cond c (refusedAt 15 i n p) (cond d later (refusedAt (judged i p (scanned 4 s 15) .refusal) i n p)))) .line ≤ i + suc fuel + 1
+        cond a (refusedAt 15 i n p) (cond b ended (cond c (refusedAt 15 i n p) (cond d later (refusedAt (judged current i p (scanOf current s) .refusal) i n p)))) .line ≤ i + suc fuel + 1
     go true b c d ended later x y = omega arith
     go false true c d ended later x y = omega arith
     go false false true d ended later x y = omega arith
     go false false false true ended later x y = omega arith
     go false false false false ended later x y = omega arith
 
-pub text-line : (t : List ℕ) → readText t .line ≤ length t + 3
+pub text-line : (t : List ℕ) → readText current t .line ≤ length t + 3
 unfolding readText
-text-line t = go (starts firstLine t) (readFrom (length t) 2 0 (begun noSettings) (drop 15 t)) (line-few (length t) 2 0 (begun noSettings) (drop 15 t))
+text-line t = go (starts (firstLine current) t) (readFrom current (length t) 2 0 (begun noSettings) (drop (lineBytes current) t)) (line-few (length t) 2 0 (begun noSettings) (drop (lineBytes current) t))
   where
     go : (b : Bool) (o : Outcome) → o .line ≤ 2 + length t + 1 → cond b o (refusedAt 15 1 0 (begun noSettings)) .line ≤ length t + 3
     go true o h = omega arith
@@ -54,12 +54,12 @@ text-line t = go (starts firstLine t) (readFrom (length t) 2 0 (begun noSettings
 
 -- ---- a text's report
 
-module _ (t : List ℕ) (o : Outcome) (few : length t ≤ 65535) (r : o ≡ readText t) where
-  pub taken-says : o .verdict ≡ Taken → readText t .verdict ≡ Taken
+module _ (t : List ℕ) (o : Outcome) (few : length t ≤ 65535) (r : o ≡ readText current t) where
+  pub taken-says : o .verdict ≡ Taken → readText current t .verdict ≡ Taken
   taken-says e = ap (λ (x : Outcome). x .verdict) (sym r) ∙ e
 
   -- an accepted text's is that of its run
-  pub taken-report : o .verdict ≡ Taken → runReport (runOf t) ≡ reportOf t
+  pub taken-report : o .verdict ≡ Taken → runReport (runOf current t) ≡ reportOf t
   unfolding reportOf
   taken-report e = rw (le-ltb 65535 (length t) few, taken-says e)
 
@@ -67,7 +67,7 @@ module _ (t : List ℕ) (o : Outcome) (few : length t ≤ 65535) (r : o ≡ read
   pub refused-report : (k : ℕ) → o .verdict ≡ Refused k → refusalReport k (o .line) ≡ reportOf t
   unfolding reportOf
   refused-report k e =
-      let v : readText t .verdict ≡ Refused k = ap (λ (x : Outcome). x .verdict) (sym r) ∙ e in
+      let v : readText current t .verdict ≡ Refused k = ap (λ (x : Outcome). x .verdict) (sym r) ∙ e in
       rw (le-ltb 65535 (length t) few, v) (ap (λ (x : Outcome). refusalReport k (x .line)) r)
 
   pub line-within : o .line < 4294967296

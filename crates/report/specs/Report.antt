@@ -11,6 +11,7 @@ use Rattle.settings.specs.declared.Verdict.the-variants.{Taken, Refused}
 use Rattle.lines.specs.Numeral.{numeral}
 use Rattle.lines.specs.Bytes.{fits, splice}
 use Rattle.runs.specs.declared.Step.{Step}
+use Rattle.record.specs.Text.{current}
 use Rattle.reader.specs.Read.{readText}
 use Rattle.reader.specs.Round.{runOf}
 use Rattle.report.specs.declared.Reported.{Reported}
@@ -57,7 +58,7 @@ reportBy (Refused number) line xs = refusalReport number line
 
 -- a text's report; above 65,535 bytes it is refused, 14 and 0
 unfoldable pub reportOf : List ℕ → List ℕ
-reportOf t = cond (ltb 65535 (length t)) (refusalReport 14 0) (reportBy (readText t .verdict) (readText t .line) (runOf t))
+reportOf t = cond (ltb 65535 (length t)) (refusalReport 14 0) (reportBy (readText current t .verdict) (readText current t .line) (runOf current t))
 
 -- ---- a report written into a lent buffer
 

@@ -5,6 +5,7 @@ ghost use mathlib.Core.Bool.{cond};
 ghost use lib.ListN.{length};
 ghost use Rattle.settings.specs.declared.Verdict.the-variants.{Taken};
 ghost use Rattle.lines.specs.Bytes.{splice};
+ghost use Rattle.record.specs.Text.{current};
 ghost use Rattle.reader.specs.Read.{readText};
 ghost use Rattle.reader.specs.Round.{runOf};
 ghost use Rattle.report.specs.Report.{reportLine, stretchLine, runReport, refusalReport, reportOf, writtenBytes, shortBuffer, Written};
@@ -100,8 +101,8 @@ fn written(bytes: usize) -> Reported
 
 // The report of an accepted text.
 fn report_text(text: &[u8], out: &mut [u8]) -> Reported
-    requires { ⌜ (length (now text) ≤ 65535) × (readText (now text) .verdict ≡ Taken) ⌝ }
-    ensures { λ r. ⌜ Written (runReport (runOf (now (text .entry)))) (now (out .entry)) r (now (out .exit)) ⌝ }
+    requires { ⌜ (length (now text) ≤ 65535) × (readText current (now text) .verdict ≡ Taken) ⌝ }
+    ensures { λ r. ⌜ Written (runReport (runOf current (now (text .entry)))) (now (out .entry)) r (now (out .exit)) ⌝ }
 {
     let n = stretches::tally_lowered(text);
     let o = stretches::tally_occupied(text);

@@ -40,14 +40,13 @@ use Rattle.bench.specs.Full.{Kept, fullLooked, fullPut, fullEntered, fullSensed
 use Rattle.bench.proofs.Kept.{kept-fresh}
 use Rattle.runs.specs.declared.Step.{Step}
 use Rattle.runs.specs.declared.Step.the-variants.{Approach, Occupy, Leave, Clock}
-use Rattle.runs.specs.History.{History, instant, arm, Place, away, coming, inside, place, isAway, isComing, isInside, since, dueAt, latestAt, someTrain, someDue, someLate, look, command, verdict, keep, after, given, orderAt, history, verdicts, orders}
+use Rattle.runs.specs.History.{History, instant, arm, Place, away, coming, inside, place, isAway, isComing, isInside, since, dueAt, latestAt, someTrain, someDue, someLate, look, command, verdict, keep, after, given, orderBetween, orderAt, history, verdicts, orders}
 use Rattle.runs.specs.Steps.{stateAfter, answersTo, benchStepped, benchAfter, benchAnswers}
 use Rattle.runs.specs.Kept.{fullStepped}
 use Rattle.runs.specs.Match.{Valid, shown, Core, Match}
 use Rattle.runs.specs.Demand.{answerOf, Agrees}
 use Rattle.runs.proofs.Rules.{some-true, some-false, approach-ok, occupy-ok, leave-ok}
-use Rattle.runs.proofs.Invariants.{clock-range}
-use Rattle.runs.proofs.Moments.{valid-after, valid}
+use Rattle.runs.proofs.Invariants.{valid-after, valid, clock-range}
 use Rattle.runs.proofs.Kept.{step-full, step-kept}
 
 -- ---- looks
@@ -166,7 +165,7 @@ at-end s h v = go (eqb (instant h) 9999999) refl
 
 -- it gives the rules' command, and clock, command and table are as they say after the step
 pub record Heeds (told : Bool) (s : Settings) (h : History) (x : Step) (u : Settings) (t : Table) (r : Controlled) : Type 0 where
-  pub answer : r .answer ≡ Taken (given (command s h) (command s (x ∷ h)))
+  pub answer : r .answer ≡ Taken (orderBetween s h (x ∷ h))
   pub core : Core told s (x ∷ h) u (r .control .now) t
   pub command : r .control .command ≡ command s (x ∷ h)
 
@@ -198,12 +197,12 @@ module _ {told : Bool} {s : Settings} {h : History} {u : Settings} {t : Table} {
 
 -- what a step gives: the rules' answer, and a bench that is as the rules say after it
 pub record Stands (s : Settings) (h : History) (x : Step) (k : ℕ) (m : Moved) : Type 0 where
-  pub answer : m .answer ≡ answerOf k (given (command s h) (command s (keep k x h)))
+  pub answer : m .answer ≡ answerOf k (orderBetween s h (keep k x h))
   pub match : Match s (keep k x h) (m .bench)
 
 -- what a step of the full look gives that is taken
 record Takes (s : Settings) (h : History) (x : Step) (m : Moved) : Type 0 where
-  pub answer : m .answer ≡ Taken (given (command s h) (command s (x ∷ h)))
+  pub answer : m .answer ≡ Taken (orderBetween s h (x ∷ h))
   pub core : Core true s (x ∷ h) (m .bench .head .settings) (nowOf (m .bench)) (m .bench .table)
   pub command : commandOf (m .bench) ≡ command s (x ∷ h)
   pub angle : armOf (m .bench) ≡ arm (x ∷ h)
@@ -299,6 +298,11 @@ pub fresh-match : (s : Settings) → Match s [] (freshBench s)
 unfolding freshBench freshHead command
 fresh-match s = record { core = fresh-core true s; command = refl; angle = refl; kept = kept-fresh s }
 
+-- the number of an answer is the number that it was made from
+pub number-answer : (k : ℕ) (o : Order) → numberOf (answerOf k o) ≡ k
+number-answer zero o = refl
+number-answer (suc k) o = refl
+
 module _ (s : Settings) where
   -- the bench after a list is as the rules say
   pub run-match : (xs : List Step) (h : History) (b : Bench) → Valid s h → Match s h b → Match s (history s h xs) (benchAfter b xs)
@@ -307,10 +311,6 @@ module _ (s : Settings) where
   run-match (x ∷ xs) h b v m = run-match xs (after s h x) (benchStepped b x .bench) (valid-after s h x v) (step-stands s h b m v x .match)
 
   -- and has answered as they say: each step's refusal number, and the command given
-  number-answer : (k : ℕ) (o : Order) → numberOf (answerOf k o) ≡ k
-  number-answer zero o = refl
-  number-answer (suc k) o = refl
-
   pub run-numbers : (xs : List Step) (h : History) (b : Bench) → Valid s h → Match s h b → map numberOf (benchAnswers b xs) ≡ verdicts s h xs
   unfolding verdicts answersTo
   run-numbers [] h b v m = refl
@@ -322,7 +322,7 @@ module _ (s : Settings) where
   order-answer : (h : History) (x : Step) → orderOf (answerOf (verdict s h x) (orderAt s h x)) ≡ orderAt s h x
   order-answer h x = go (verdict s h x)
     where
-      go : (k : ℕ) → orderOf (answerOf k (given (command s h) (command s (keep k x h)))) ≡ given (command s h) (command s (keep k x h))
+      go : (k : ℕ) → orderOf (answerOf k (orderBetween s h (keep k x h))) ≡ orderBetween s h (keep k x h)
       go zero = refl
       go (suc k) = sym (unmoved (command s h))
 

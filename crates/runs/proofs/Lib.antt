@@ -1,7 +1,8 @@
+pub mod Course
+pub mod Road
 pub mod Rules
 pub mod Invariants
-pub mod Moments
-pub mod OpenRoad
+pub mod Single
 pub mod Kept
 pub mod Agreement
 pub mod Demand

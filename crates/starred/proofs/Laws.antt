@@ -13,5 +13,5 @@ written-first k n new old after want z e p l =
     let w : after ≡ over want old = e ∙ rw (z, p) in
     rw w (take-at want (drop (length want) old) n l)
 
-pub both-true : (a b : Bool) → a ≡ true → b ≡ true → (a && b) ≡ true
-both-true a b p q = rw (p, q)
+pub both-hold : (a b : Bool) → a ≡ true → b ≡ true → (a && b) ≡ true
+both-hold a b p q = rw (p, q)

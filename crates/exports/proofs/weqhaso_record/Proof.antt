@@ -1,5 +1,7 @@
 -- `exports::weqhaso_record` meets its contract: it is `recording::record_run`. Assumes nothing.
 use native.Mathlib.Omega.{arith}
+use Prim.Native.Nat.{ℕ, _+_}
+use mathlib.Core.Path.{ap, _∙_}
 use mathlib.Core.Logic.{⊎-elim, inl, inr}
 use borrow.Author.Needs.{needs}
 use Rattle.recording.proofs.RunRecorded.{record-starts}
@@ -16,12 +18,16 @@ record-run-requires c κs = search needs
 number-byte-requires : tie.Need-number-byte-requires
 number-byte-requires c κs = search needs
 
+line-bytes-requires : tie.Need-line-bytes-requires
+line-bytes-requires c κs = search needs
+
 add-bytes : tie.Need-add-bytes
 add-bytes c =
-    let k = c .before .before .before .before .before .before .before .before in
+    let line = c .before .before in
+    let k = line .before .before .before .before .before .before .before in
     let a = k .before .before .before .before .before .before .before .before .before in
-    let end = record-end _ _ _ _ _ _ _ _ (λ z. record-starts _ _ _ _ _ _ z) (k .record-run .ensures) _ (c .before .before .number-byte .ensures) (c .before .if1 .taken) in
-    omega (arith, end .0, end .1, a .good .1 .1 .1 .1 .1 .1 .1 .1 .1 .1 .1 .0)
+    let end = record-end _ _ _ _ _ _ _ _ (λ z. record-starts _ _ _ _ _ _ z) (k .record-run .ensures) _ (line .before .number-byte .ensures) (c .before .if1 .taken) in
+    omega (arith, line .line-bytes .ensures, end .0, end .1, a .good .1 .1 .1 .1 .1 .1 .1 .1 .1 .1 .1 .0)
 
 mul-result : tie.Need-mul-result
 mul-result c = search needs
@@ -40,9 +46,10 @@ same-length-2 c = search needs
 
 returns : tie.Need-returns
 returns c =
-    let k = c .before .before .before .before .before .before .before .before in
-    record-answered _ _ _ _ _ _ _ _ (λ z. record-starts _ _ _ _ _ _ z) (rw (k .before .before .before .settings-of .ensures) at (k .record-run .ensures)) _ (c .before .before .number-byte .ensures)
-    (c .before .if1 .bytes) (⊎-elim (λ x. inl (x .0 .taken, x .2)) (λ x. inr (x .0 .left, x .1)) (c .before .if1 .came))
+    let line = c .before .before in
+    let k = line .before .before .before .before .before .before .before in
+    record-answered _ _ _ _ _ _ _ _ (λ z. record-starts _ _ _ _ _ _ z) (rw (k .before .before .before .settings-of .ensures) at (k .record-run .ensures)) _ (line .before .number-byte .ensures)
+    (c .before .if1 .bytes) (⊎-elim (λ x. inl (x .0 .taken, x .2 ∙ ap (λ (n : ℕ). k .record-run .result .recorder .at + n) (line .line-bytes .ensures))) (λ x. inr (x .0 .left, x .1)) (c .before .if1 .came))
 
 pub weqhaso-record-spec : {M : Type 1} → statement M
 weqhaso-record-spec =
@@ -51,6 +58,7 @@ weqhaso-record-spec =
     settings-of-requires
     record-run-requires
     number-byte-requires
+    line-bytes-requires
     add-bytes
     mul-result
     cast-result

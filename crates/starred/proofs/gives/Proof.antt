@@ -3,7 +3,7 @@ use native.Mathlib.Omega.{arith}
 use lib.ListN.{length, length-take}
 use Rattle.runs.proofs.Running.{run-beside}
 use Rattle.starred.specs.Settings.{like}
-use Rattle.starred.proofs.Laws.{written-first, both-true}
+use Rattle.starred.proofs.Laws.{written-first, both-hold}
 use borrow.Author.Needs.{needs}
 use Rattle.starred.proofs.gives.Statement.{statement}
 use Rattle.starred.proofs.gives.Tie as tie
@@ -43,7 +43,7 @@ returns c e =
     let k = c .before .before .before .before .before .before in
     let a = k .before .before .before .before .before .before .before .before .before .before .args in
     let ran = rw (k .before .before .before .settings-like .ensures) at (k .run .ensures) in
-    both-true _ _
+    both-hold _ _
     (c .before .before .same .ensures .1 (written-first _ _ _ _ _ _ (e .runs) (ran .answered) (e .answered) (e .each)))
     (c .same2 .ensures .1 (written-first _ _ _ _ _ _ (e .runs) (ran .ordered) (e .commanded) (e .eachOrder)))
 
