@@ -8,7 +8,7 @@ use Rattle.settings.specs.declared.Settings.{Settings}
 use Rattle.settings.specs.Settings.{numberOf}
 use Rattle.runs.specs.declared.Step.{Step}
 use Rattle.runs.specs.History as rules
-use Rattle.runs.specs.Run.{written, orderLetter}
+use Rattle.runs.specs.Run.{written, orderByte}
 use Rattle.runs.specs.Demand.{Demand3}
 use Rattle.record.specs.Text.{current, text}
 use Rattle.record.specs.Recording.{recordVerdicts, runSoFar}
@@ -23,7 +23,7 @@ settingsOf e f p q w x y = record { earliest = e; latest = f; fall = p; rise = q
 pub record Answered (s : Settings) (xs : List Step) (k r : ℕ) (answers answersAfter orders ordersAfter : List ℕ) : Type 0 where
   pub number : r ≡ k
   pub answered : answersAfter ≡ written k (rules.verdicts s [] xs) answers
-  pub ordered : ordersAfter ≡ written k (map orderLetter (rules.orders s [] xs)) orders
+  pub ordered : ordersAfter ≡ written k (map orderByte (rules.orders s [] xs)) orders
   pub demand : k ≡ 0 → Demand3 s xs
 
 -- 256 times a count, and a refusal number; the count up to 2 ^ 56

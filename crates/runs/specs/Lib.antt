@@ -4,4 +4,5 @@ pub mod Demand
 pub mod Claims
 pub mod Kept
 pub mod Match
+pub mod Letters
 pub mod Run
