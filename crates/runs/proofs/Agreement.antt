@@ -5,7 +5,7 @@ use Prim.Native.Nat.{ℕ, zero, suc, _+_}
 use native.Mathlib.Omega.{arith}
 use native.Mathlib.Decide.{ℕ-discrete}
 use mathlib.Core.Path.{_≡_, refl, sym, _∙_, ap, ap₂}
-use mathlib.Core.Bool.{Bool, true, false, not, _&&_, cond}
+use mathlib.Core.Bool.{Bool, true, false, not, _&&_, cond, true≢false}
 use mathlib.Core.List.{List, [], _∷_, map}
 use mathlib.Core.Logic.{_≢_}
 use lib.Dec.{leb, ltb, eqb}
@@ -23,8 +23,8 @@ use Rattle.trains.specs.declared.Table.{Table}
 use Rattle.trains.specs.Trains as standing
 use Rattle.trains.specs.Trains.{isTrain}
 use Rattle.trains.specs.Table as table
-use Rattle.trains.specs.Table.{standingOf, put, someStanding, WellFormed}
-use Rattle.trains.proofs.Laws.{train-says, says-train, fresh-formed, fresh-away, put-formed, put-same, put-other, train-some, none-some}
+use Rattle.trains.specs.Table.{standingOf, put, someStanding}
+use Rattle.trains.proofs.Laws.{fresh-formed, fresh-away, put-formed, put-same, put-other, some-train, train-some}
 use Rattle.cabinet.specs.declared.Order.{Order}
 use Rattle.cabinet.specs.declared.Order.the-variants.{Nothing}
 use Rattle.cabinet.specs.declared.Answer.the-variants.{Taken}
@@ -45,22 +45,11 @@ use Rattle.runs.specs.Steps.{stateAfter, answersTo, benchStepped, benchA
 use Rattle.runs.specs.Kept.{fullStepped}
 use Rattle.runs.specs.Match.{Valid, shown, Core, Match}
 use Rattle.runs.specs.Demand.{answerOf, Agrees}
-use Rattle.runs.proofs.Rules.{some-true, some-false, approach-ok, occupy-ok, leave-ok}
+use Rattle.runs.proofs.Rules.{some-true, some-present, approach-ok, occupy-ok, leave-ok}
 use Rattle.runs.proofs.Invariants.{valid-after, valid, clock-range}
 use Rattle.runs.proofs.Kept.{step-full, step-kept}
 
 -- ---- looks
-
--- a look over the table is the test over the trains
-table-some : (t : Table) → WellFormed t → (test : Standing → Bool) (by : ℕ → Bool) →
-    ((n : ℕ) → test (standingOf t n) ≡ by n) → someStanding test t ≡ someTrain by
-table-some t f test by e = go (someTrain by) refl
-  where
-    go : (b : Bool) → someTrain by ≡ b → someStanding test t ≡ b
-    go true q =
-        let w = some-true by 1 96 q in
-        train-some test t f (w .0) (says-train (w .0) (w .1) (omega arith)) (e (w .0) ∙ w .3)
-    go false q = none-some test t f (λ n k. let l = train-says n k in e n ∙ some-false by 1 96 q n (l .0) (omega arith))
 
 module _ {told : Bool} {s : Settings} {h : History} {u : Settings} {i : ℕ} {t : Table} (m : Core told s h u i t) where
   -- what is asked of a train's standing, from what the rules say of the train
@@ -81,10 +70,30 @@ module _ {told : Bool} {s : Settings} {h : History} {u : Settings} {i : ℕ} {t 
   unfolding approachRefusal verdict
   approach-number n = ap (λ (b : Bool). refuse (not (isTrain n)) 5 (refuse b 6 0)) (present-is n)
 
+  -- a look over the table, for trains that are not away, is the look of the history
+  table-some : (test : Standing → Bool) (g : Place → ℕ → Bool) → test Away ≡ false → ((p : Place) (a : ℕ) → test (shown told p a) ≡ g p a) →
+      someStanding test t ≡ someTrain h (λ n. g (place n h) (since n h))
+  table-some test g none each = go (someStanding test t) (someTrain h by) refl refl
+    where
+      by : ℕ → Bool
+      by n = g (place n h) (since n h)
+
+      present : (p : Place) (a : ℕ) → test (shown told p a) ≡ true → isAway p ≡ false
+      present away a e = absurd (true≢false (sym e ∙ none))
+      present coming a e = refl
+      present inside a e = refl
+
+      go : (a b : Bool) → someStanding test t ≡ a → someTrain h by ≡ b → a ≡ b
+      go true true p q = refl
+      go true false p q =
+          let w = some-train test t (m .formed) p in
+          sym (some-present by (w .0) (sym (by-standing test g each (w .0)) ∙ w .1) h (present (place (w .0) h) (since (w .0) h) (ap test (sym (m .stands (w .0))) ∙ w .1))) ∙ q
+      go false true p q = let w = some-true by h q in sym p ∙ train-some test t (m .formed) none (w .0) (by-standing test g each (w .0) ∙ w .1)
+      go false false p q = refl
+
   table-due : (x : ℕ) → table.dueBy t s x ≡ someDue s h x
   unfolding standing.dueAt dueAt
-  table-due x = table-some t (m .formed) (standing.dueAt s x) (λ n. not (isAway (place n h)) && leb (dueAt s h n) x)
-      (by-standing (standing.dueAt s x) (λ p a. not (isAway p) && leb (a + s .earliest) x) (each told))
+  table-due x = table-some (standing.dueAt s x) (λ p a. not (isAway p) && leb (a + s .earliest) x) refl (each told)
     where
       each : (told : Bool) (p : Place) (a : ℕ) → standing.dueAt s x (shown told p a) ≡ (not (isAway p) && leb (a + s .earliest) x)
       each told away a = refl
@@ -254,8 +263,7 @@ module _ (s : Settings) (h : History) (b : Bench) (m : Match s h b) where
 
   table-late : table.someLate (b .table) s (instant h) ≡ someLate s h
   unfolding standing.latestAt latestAt
-  table-late = table-some (b .table) (m .core .formed) (standing.latestAt s (instant h)) (λ n. isComing (place n h) && leb (latestAt s h n) (instant h))
-      (by-standing (m .core) (standing.latestAt s (instant h)) (λ p a. isComing p && leb (a + s .latest) (instant h)) each)
+  table-late = table-some (m .core) (standing.latestAt s (instant h)) (λ p a. isComing p && leb (a + s .latest) (instant h)) refl each
     where
       each : (p : Place) (a : ℕ) → standing.latestAt s (instant h) (shown true p a) ≡ (isComing p && leb (a + s .latest) (instant h))
       each away a = refl

@@ -13,14 +13,13 @@ use Rattle.settings.specs.Settings.{fallTicks}
 use Rattle.settings.proofs.Laws.{both, Fitting}
 use Rattle.arm.specs.declared.Command.{Command}
 use Rattle.arm.specs.declared.Command.the-variants.{Up, Down}
-use Rattle.trains.proofs.Laws.{train-says}
 use Rattle.runs.specs.declared.Step.{Step}
 use Rattle.runs.specs.declared.Step.the-variants.{Approach, Occupy, Leave, Clock}
 use Rattle.runs.specs.History.{History, instant, arm, away, coming, inside, place, isAway, isComing, dueAt, latestAt, someDue, someLate, lowering, raising, look, command, verdict, keep, after, history, moment}
 use Rattle.runs.specs.Demand.{Occupied}
 use Rattle.runs.specs.Match.{Valid}
 use Rattle.runs.proofs.Rules.{some-true, some-false, approach-ok, occupy-ok, leave-ok, clock-ok}
-use Rattle.runs.proofs.Invariants.{valid, in-range}
+use Rattle.runs.proofs.Invariants.{valid}
 use Rattle.runs.proofs.Course.{coming-present, present-away, Moment, DueBy, Course, Waits, Change, same, comes, enters, leaves, Tick, still, ticks, Looked, sooner, waited-now, Lawful}
 
 -- what a history shows
@@ -54,25 +53,23 @@ second true b e p = e
 second false b e p = absurd (false≢true p)
 
 module _ (s : Settings) where
-  -- ---- what the looks over all trains say
+  -- ---- what the looks say
 
   some-due : (h : History) (t : ℕ) → someDue s h t ≡ true → DueBy (seen s h) t
   some-due h t e =
-      let r = some-true (λ n. not (isAway (place n h)) && leb (dueAt s h n) t) 1 96 e in
-      let p = both (not (isAway (place (r .0) h))) (leb (dueAt s h (r .0)) t) (r .3) in
+      let r = some-true (λ n. not (isAway (place n h)) && leb (dueAt s h n) t) h e in
+      let p = both (not (isAway (place (r .0) h))) (leb (dueAt s h (r .0)) t) (r .1) in
       (r .0, not-true _ (p .0), leb-true _ _ (p .1))
 
-  none-due : (h : History) → Valid s h → (t : ℕ) → someDue s h t ≡ false → DueBy (seen s h) t → ⊥
-  none-due h v t e (n, a, d) =
-      let l = train-says n (in-range s h v n a) in
-      let r = some-false (λ n. not (isAway (place n h)) && leb (dueAt s h n) t) 1 96 e n (l .0) (omega arith) in
+  none-due : (h : History) (t : ℕ) → someDue s h t ≡ false → DueBy (seen s h) t → ⊥
+  none-due h t e (n, a, d) =
+      let r = some-false (λ n. not (isAway (place n h)) && leb (dueAt s h n) t) h e n a in
       let z : t < dueAt s h n = leb-false _ _ (second (not (isAway (place n h))) (leb (dueAt s h n) t) r (ap not a)) in
       omega arith
 
-  none-late : (h : History) → Valid s h → someLate s h ≡ false → (n : ℕ) → place n h ≡ coming → instant h < latestAt s h n
-  none-late h v e n p =
-      let l = train-says n (in-range s h v n (coming-present p)) in
-      let r = some-false (λ n. isComing (place n h) && leb (latestAt s h n) (instant h)) 1 96 e n (l .0) (omega arith) in
+  none-late : (h : History) → someLate s h ≡ false → (n : ℕ) → place n h ≡ coming → instant h < latestAt s h n
+  none-late h e n p =
+      let r = some-false (λ n. isComing (place n h) && leb (latestAt s h n) (instant h)) h e n (coming-present p) in
       leb-false _ _ (second (isComing (place n h)) (leb (latestAt s h n) (instant h)) r (ap isComing p))
 
   -- ---- from one moment to the next
@@ -99,12 +96,12 @@ module _ (s : Settings) where
   change g (accepted (Clock r) ok) n = same refl refl refl
 
   -- to the clock and the arm
-  tick : {h e : History} → Valid s h → Next s h e → Tick s (seen s h) (seen s e)
-  tick v refused = still refl refl
-  tick v (accepted (Approach m) ok) = still refl refl
-  tick v (accepted (Occupy m) ok) = still refl refl
-  tick v (accepted (Leave m) ok) = still refl refl
-  tick {h} v (accepted (Clock r) ok) = let f = clock-ok s h r ok in ticks refl (none-late h v (f .none-late)) (f .range) (f .moves)
+  tick : {h e : History} → Next s h e → Tick s (seen s h) (seen s e)
+  tick refused = still refl refl
+  tick (accepted (Approach m) ok) = still refl refl
+  tick (accepted (Occupy m) ok) = still refl refl
+  tick (accepted (Leave m) ok) = still refl refl
+  tick {h} (accepted (Clock r) ok) = let f = clock-ok s h r ok in ticks refl (none-late h (f .none-late)) (f .range) (f .moves)
 
   -- ---- the command
 
@@ -119,17 +116,17 @@ module _ (s : Settings) where
   unmoved h Down d = yes d
 
   -- what a look says, with the command k before it
-  by-look : (h : History) → Valid s h → (k : Command) → Looked s k (look s h k) (seen s h) × Settled (look s h k) h
-  by-look h v Up = go (someDue s h (lowering s h)) refl
+  by-look : (h : History) (k : Command) → Looked s k (look s h k) (seen s h) × Settled (look s h k) h
+  by-look h Up = go (someDue s h (lowering s h)) refl
     where
       go : (t : Bool) → someDue s h (lowering s h) ≡ t → Looked s Up (cond t Down Up) (seen s h) × Settled (cond t Down Up) h
       go true e = let d = some-due h (lowering s h) e in (d, sooner s (seen s h) d)
-      go false e = let f = none-due h v (lowering s h) e in (f, f)
-  by-look h v Down = go (someDue s h (raising s h)) refl
+      go false e = let f = none-due h (lowering s h) e in (f, f)
+  by-look h Down = go (someDue s h (raising s h)) refl
     where
       go : (t : Bool) → someDue s h (raising s h) ≡ t → Looked s Down (cond t Down Up) (seen s h) × Settled (cond t Down Up) h
       go true e = let d = some-due h (raising s h) e in (yes d, d)
-      go false e = let f = none-due h v (raising s h) e in (f, λ d. f (sooner s (seen s h) d))
+      go false e = let f = none-due h (raising s h) e in (f, λ d. f (sooner s (seen s h) d))
 
   -- an occupy is not heard, and the same trains are present and due as before
   unheard : (h : History) (m : ℕ) → verdict s h (Occupy m) ≡ 0 → (k : Command) → Settled k h → Settled k (Occupy m ∷ h)
@@ -147,19 +144,19 @@ module _ (s : Settings) where
   settled : (h : History) → Valid s h → Settled (command s h) h
   unfolding command
   settled [] v = λ d. present-away (d .1) refl
-  settled (Approach m ∷ h) v = by-look (Approach m ∷ h) v (command s h) .1
+  settled (Approach m ∷ h) v = by-look (Approach m ∷ h) (command s h) .1
   settled (Occupy m ∷ h) v = unheard h m (v .1) (command s h) (settled h (v .0))
-  settled (Leave m ∷ h) v = by-look (Leave m ∷ h) v (command s h) .1
-  settled (Clock r ∷ h) v = by-look (Clock r ∷ h) v (command s h) .1
+  settled (Leave m ∷ h) v = by-look (Leave m ∷ h) (command s h) .1
+  settled (Clock r ∷ h) v = by-look (Clock r ∷ h) (command s h) .1
 
   -- and what a step does to it
   looked : {h e : History} → Valid s h → Next s h e → Looked s (command s h) (command s e) (seen s e)
   unfolding command
   looked {h} v refused = unmoved h (command s h) (settled h v)
-  looked {h} v (accepted (Approach m) ok) = by-look (Approach m ∷ h) (v, ok) (command s h) .0
+  looked {h} v (accepted (Approach m) ok) = by-look (Approach m ∷ h) (command s h) .0
   looked {h} v (accepted (Occupy m) ok) = unmoved (Occupy m ∷ h) (command s h) (settled (Occupy m ∷ h) (v, ok))
-  looked {h} v (accepted (Leave m) ok) = by-look (Leave m ∷ h) (v, ok) (command s h) .0
-  looked {h} v (accepted (Clock r) ok) = by-look (Clock r ∷ h) (v, ok) (command s h) .0
+  looked {h} v (accepted (Leave m) ok) = by-look (Leave m ∷ h) (command s h) .0
+  looked {h} v (accepted (Clock r) ok) = by-look (Clock r ∷ h) (command s h) .0
 
   -- no raise waits
   never : (h : History) → Valid s h → Waits s (seen s h) → ⊥
@@ -179,7 +176,7 @@ module _ (s : Settings) where
     empty = λ n. refl;
     passing = λ i o. o;
     change = λ i n. change g (next s xs [] i) n;
-    tick = λ i. tick (valid-at i) (next s xs [] i);
+    tick = λ i. tick (next s xs [] i);
     look = λ i. looked (valid-at i) (next s xs [] i);
     patient = λ {j} {i} w. absurd (never (moment s xs i) (valid-at i) (waited-now s (course s xs) w));
     ahead = λ i n. covers g (moment s xs i) n;
