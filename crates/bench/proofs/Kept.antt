@@ -6,6 +6,8 @@ use mathlib.Core.Path.{_≡_, refl, sym, ap, _∙_}
 use mathlib.Core.Bool.{Bool, true, false, cond}
 use lib.Dec.{leb}
 use Rattle.settings.specs.declared.Settings.{Settings}
+use Rattle.settings.specs.Refusal.{unless}
+use Rattle.settings.proofs.Laws.{unless-has}
 use Rattle.arm.specs.declared.Reading.{Reading}
 use Rattle.arm.specs.Shown.{angleOf}
 use Rattle.trains.specs.declared.Standing.{Standing}
@@ -30,8 +32,8 @@ use Rattle.bench.specs.declared.Motion.{Motion}
 use Rattle.bench.specs.declared.Sensed.{Sensed}
 use Rattle.bench.specs.declared.Bench.{Bench}
 use Rattle.bench.specs.declared.Moved.{Moved}
-use Rattle.bench.specs.Bench.{nowOf, standsAt, freshHead, freshBench, headLooked, headApproached, headOccupied, headLeft, occupyRefusal, benchLeaveRefusal, senseUnless, movedBy, sensed, tickUnless, turned, withMotion, clockRefusal, headTicked, clockRead}
-use Rattle.bench.specs.Full.{Kept, withTable, fullLooked, fullPut, fullEntered, fullSensed, fullClockRefusal, fullClocked, unless}
+use Rattle.bench.specs.Bench.{nowOf, standsAt, freshHead, freshBench, headLooked, headApproached, headOccupied, headLeft, occupyRefusal, benchLeaveRefusal, unsensed, movedBy, sensed, unticked, turned, withMotion, clockRefusal, headTicked, clockRead}
+use Rattle.bench.specs.Full.{Kept, withTable, fullLooked, fullPut, fullEntered, fullSensed, fullClockRefusal, fullClocked, refused}
 use Rattle.bench.proofs.Laws.{occupy-says, leave-says}
 
 -- at the beginning nobody is first
@@ -48,9 +50,8 @@ own-inside s n a = (refl, refl)
 
 -- an event refused or taken
 moved-full : (k : ℕ) (b : Bench) (n : ℕ) (standing : Standing) (gives : Sensed) (full : Moved) → (k ≡ 0 → movedBy b n gives ≡ full) →
-    movedBy b n (senseUnless k (b .head) standing gives) ≡ unless k b full
-moved-full zero b n standing gives full p = p refl
-moved-full (suc k) b n standing gives full p = refl
+    movedBy b n (unless k (unsensed (b .head) standing) gives) ≡ unless k (refused b) full
+moved-full k b n standing gives full = unless-has (λ (j : ℕ) (h : Sensed). movedBy b n h ≡ unless j (refused b) full) k (unsensed (b .head) standing) gives (λ j. refl)
 
 module _ (b : Bench) (k : Kept b) (n : ℕ) where
   -- who is first in the table with a standing of train n put
@@ -125,14 +126,14 @@ module _ (b : Bench) (k : Kept b) (r : Reading) where
   pub clock-full : clockRead b r ≡ fullClocked b r
   unfolding clockRead fullClocked headTicked ticked lookedAt fullClockRefusal
   clock-full =
-      ap (λ (j : ℕ). withMotion b (tickUnless j (b .head .motion) (turned (b .head) r (ticked (b .head .settings) (b .head .ticks) (b .head .soonest) (b .head .motion .control))))) refusal-full
+      ap (λ (j : ℕ). withMotion b (unless j (unticked (b .head .motion)) (turned (b .head) r (ticked (b .head .settings) (b .head .ticks) (b .head .soonest) (b .head .motion .control))))) refusal-full
       ∙ go (leb 9999999 (nowOf b)) refl (fullClockRefusal b r) refl
     where
       go : (ended : Bool) → leb 9999999 (nowOf b) ≡ ended → (j : ℕ) → fullClockRefusal b r ≡ j →
           withMotion b
-          (tickUnless j (b .head .motion)
+          (unless j (unticked (b .head .motion))
           (turned (b .head) r (cond ended (record { answer = Refused 10; control = b .head .motion .control }) (lookedAt (b .head .settings) (b .head .ticks) (b .head .soonest) (next .control)))))
-          ≡ unless j b (fullLooked (b .head .settings) (b .table) next)
+          ≡ unless j (refused b) (fullLooked (b .head .settings) (b .table) next)
       go true e zero f = let z : _≡_ {A = ℕ} 10 0 = rw e at f in absurd (omega arith)
       go true e (suc j) f = refl
       go false e zero f = rw (k .ticks, k .soonest, k .latest, order-full (b .head .settings) (b .table) (next .control))
@@ -140,20 +141,19 @@ module _ (b : Bench) (k : Kept b) (r : Reading) where
 
 -- ---- and leaves a bench that keeps what its table says
 
-unless-kept : (j : ℕ) (b : Bench) (m : Moved) → Kept b → Kept (m .bench) → Kept (unless j b m .bench)
-unless-kept zero b m k l = l
-unless-kept (suc j) b m k l = k
+by-kept : (j : ℕ) (b : Bench) (m : Moved) → Kept b → Kept (m .bench) → Kept (unless j (refused b) m .bench)
+by-kept j b m k l = unless-has (λ (j : ℕ) (m : Moved). Kept (m .bench)) j (refused b) m (λ j. k) (λ z. l)
 
 table-kept : (b : Bench) → Kept b → (n : ℕ) (standing : Standing) (motion : Motion) → Kept (withTable (b .head .settings) motion (put (b .table) n standing))
 table-kept b k n standing motion = record { ticks = refl; formed = put-formed (b .table) n standing (k .formed); soonest = refl; latest = refl }
 
 pub sensed-kept : (b : Bench) → Kept b → (n : ℕ) (x : Event) → Kept (fullSensed b x n .bench)
 unfolding fullSensed
-sensed-kept b k n Approach = unless-kept (approachRefusal n (standsAt b n)) b _ k (table-kept b k n (Coming (nowOf b)) _)
+sensed-kept b k n Approach = by-kept (approachRefusal n (standsAt b n)) b _ k (table-kept b k n (Coming (nowOf b)) _)
 sensed-kept b k n Occupy =
-    unless-kept (occupyRefusal (b .head .settings) (nowOf b) n (standsAt b n)) b _ k (table-kept b k n (Inside (since (standsAt b n))) _)
-sensed-kept b k n Leave = unless-kept (benchLeaveRefusal n (standsAt b n)) b _ k (table-kept b k n Away _)
+    by-kept (occupyRefusal (b .head .settings) (nowOf b) n (standsAt b n)) b _ k (table-kept b k n (Inside (since (standsAt b n))) _)
+sensed-kept b k n Leave = by-kept (benchLeaveRefusal n (standsAt b n)) b _ k (table-kept b k n Away _)
 
 pub clock-kept : (b : Bench) → Kept b → (r : Reading) → Kept (fullClocked b r .bench)
 unfolding fullClocked
-clock-kept b k r = unless-kept (fullClockRefusal b r) b _ k (record { ticks = refl; formed = k .formed; soonest = refl; latest = refl })
+clock-kept b k r = by-kept (fullClockRefusal b r) b _ k (record { ticks = refl; formed = k .formed; soonest = refl; latest = refl })

@@ -1,11 +1,11 @@
 -- The bench's steps by the full look, as document 01 has them ("Clock and arm" and "Cabinet"): at every look and for refusal 11 each train of the table is
 -- asked, and what is kept beside the table decides nothing; it is written anew from the table (document 02, "Eight"). Assumes nothing.
-use Prim.Native.Nat.{ℕ, zero, suc, _+_}
+use Prim.Native.Nat.{ℕ}
 use mathlib.Core.Path.{_≡_}
 use mathlib.Core.Bool.{not}
 use lib.Dec.{leb}
 use Rattle.settings.specs.declared.Settings.{Settings}
-use Rattle.settings.specs.Refusal.{refuse}
+use Rattle.settings.specs.Refusal.{refuse, unless}
 use Rattle.settings.specs.Settings.{ticksOf}
 use Rattle.arm.specs.declared.Reading.{Reading}
 use Rattle.arm.specs.Shown.{isAllowed, angleOf}
@@ -52,10 +52,9 @@ fullLooked s t m =
 
 -- ---- the steps
 
--- a step with this refusal number, 0 for none: the same bench back, or what the step gives
-abbrev pub unless : ℕ → Bench → Moved → Moved
-unless zero was gives = gives
-unless (suc k) was gives = record { answer = Refused (suc k); bench = was }
+-- a refusal gives the same bench back
+abbrev pub refused : Bench → ℕ → Moved
+refused b k = record { answer = Refused k; bench = b }
 
 -- a standing put, and the full look
 abbrev pub fullPut : Bench → ℕ → Standing → Moved
@@ -68,9 +67,9 @@ fullEntered b n =
 
 -- a sensor's event of train n, by the refusals of the bench
 unfoldable pub fullSensed : Bench → Event → ℕ → Moved
-fullSensed b Approach n = unless (approachRefusal n (standsAt b n)) b (fullPut b n (Coming (nowOf b)))
-fullSensed b Occupy n = unless (occupyRefusal (b .head .settings) (nowOf b) n (standsAt b n)) b (fullEntered b n)
-fullSensed b Leave n = unless (benchLeaveRefusal n (standsAt b n)) b (fullPut b n Away)
+fullSensed b Approach n = unless (approachRefusal n (standsAt b n)) (refused b) (fullPut b n (Coming (nowOf b)))
+fullSensed b Occupy n = unless (occupyRefusal (b .head .settings) (nowOf b) n (standsAt b n)) (refused b) (fullEntered b n)
+fullSensed b Leave n = unless (benchLeaveRefusal n (standsAt b n)) (refused b) (fullPut b n Away)
 
 -- clock: 10 now is 9,999,999, 11 a coming train is at its latest, 12 not an allowed reading, 13 breaks the movement rule
 unfoldable pub fullClockRefusal : Bench → Reading → ℕ
@@ -84,5 +83,5 @@ fullClockRefusal b r =
 -- a clock step: one tick, the arm at the angle read, and the full look
 unfoldable pub fullClocked : Bench → Reading → Moved
 fullClocked b r =
-    unless (fullClockRefusal b r) b
+    unless (fullClockRefusal b r) (refused b)
     (fullLooked (b .head .settings) (b .table) (record { control = later (b .head .motion .control); angle = angleOf r; previous = armOf b }))

@@ -1,12 +1,13 @@
 -- On a cabinet that keeps the soonest train of its table every step is that of the full look, and the cabinet after it keeps it too.
 -- Assumes nothing.
-use Prim.Native.Nat.{ℕ, zero, suc}
+use Prim.Native.Nat.{ℕ}
 use mathlib.Core.Path.{_≡_, refl, sym, ap, _∙_}
 use mathlib.Core.Bool.{Bool, true, false, cond}
 use lib.Dec.{leb}
 use Rattle.settings.specs.declared.Settings.{Settings}
-use Rattle.settings.specs.Refusal.{refuse}
+use Rattle.settings.specs.Refusal.{refuse, unless}
 use Rattle.settings.specs.Settings.{ticksOf}
+use Rattle.settings.proofs.Laws.{unless-has}
 use Rattle.trains.specs.declared.Standing.{Standing}
 use Rattle.trains.specs.declared.Standing.the-variants.{Away, Coming}
 use Rattle.trains.specs.declared.First.{First}
@@ -20,8 +21,8 @@ use Rattle.cabinet.specs.declared.Answer.the-variants.{Refused}
 use Rattle.cabinet.specs.declared.Control.{Control}
 use Rattle.cabinet.specs.declared.Cabinet.{Cabinet}
 use Rattle.cabinet.specs.declared.Stepped.{Stepped}
-use Rattle.cabinet.specs.Cabinet.{freshCabinet, horizon, order, orderFor, lookedAt, looked, stepped, placed, withControl, later, ticked, approachRefusal, leaveRefusal, approached, left, clocked}
-use Rattle.cabinet.specs.Full.{Kept, fullOrder, fullLooked, fullPut, unless, fullApproached, fullLeft, fullClocked}
+use Rattle.cabinet.specs.Cabinet.{freshCabinet, horizon, order, orderFor, lookedAt, looked, refused, placed, withControl, later, ticked, approachRefusal, leaveRefusal, approached, left, clocked}
+use Rattle.cabinet.specs.Full.{Kept, fullOrder, fullLooked, fullPut, fullApproached, fullLeft, fullClocked}
 use Rattle.cabinet.proofs.Laws.{approach-says, leave-says}
 
 -- at the beginning nobody is first
@@ -43,9 +44,8 @@ unfolding looked lookedAt
 placed-full c k n standing soonest p = rw (p, k .ticks, order-full (c .settings) (put (c .table) n standing) (c .control))
 
 -- a step refused or taken
-stepped-full : (k : ℕ) (c next : Cabinet) (full : Stepped) → (k ≡ 0 → looked next ≡ full) → stepped k c next ≡ unless k c full
-stepped-full zero c next full p = p refl
-stepped-full (suc k) c next full p = refl
+step-full : (k : ℕ) (c : Cabinet) (gives full : Stepped) → (k ≡ 0 → gives ≡ full) → unless k (refused c) gives ≡ unless k (refused c) full
+step-full k c gives full = unless-has (λ (j : ℕ) (m : Stepped). m ≡ unless j (refused c) full) k (refused c) gives (λ j. refl)
 
 module _ (c : Cabinet) (k : Kept c) where
   pub approach-full : (n : ℕ) → approached c n ≡ fullApproached c n
@@ -53,7 +53,7 @@ module _ (c : Cabinet) (k : Kept c) where
   approach-full n =
       let coming = Coming (c .control .now) in
       let own = ownOf (c .settings) Due n in
-      stepped-full (approachRefusal n (standingOf (c .table) n)) c (placed c n coming (earlierOf (own coming) (c .soonest))) (fullPut c n coming)
+      step-full (approachRefusal n (standingOf (c .table) n)) c _ (fullPut c n coming)
       (λ ok. let says = approach-says n (standingOf (c .table) n) ok in
       placed-full c k n coming (earlierOf (own coming) (c .soonest))
       (ap (earlierOf (own coming)) (k .soonest)
@@ -63,7 +63,7 @@ module _ (c : Cabinet) (k : Kept c) where
   unfolding left fullLeft
   leave-full n =
       let rest : First → First = λ f. restOf (c .settings) Due f n (c .table) in
-      stepped-full (leaveRefusal n (standingOf (c .table) n)) c (placed c n Away (rest (c .soonest))) (fullPut c n Away)
+      step-full (leaveRefusal n (standingOf (c .table) n)) c _ (fullPut c n Away)
       (λ ok. placed-full c k n Away (rest (c .soonest))
       (ap rest (k .soonest) ∙ first-rest (c .settings) Due (c .table) n (k .formed) (leave-says n (standingOf (c .table) n) ok)))
 
@@ -73,28 +73,27 @@ module _ (c : Cabinet) (k : Kept c) where
     where
       go : (ended : Bool) →
           withControl c (cond ended (record { answer = Refused 10; control = c .control }) (lookedAt (c .settings) (c .ticks) (c .soonest) (later (c .control))))
-          ≡ unless (refuse ended 10 0) c (fullLooked (c .settings) (c .table) (later (c .control)))
+          ≡ unless (refuse ended 10 0) (refused c) (fullLooked (c .settings) (c .table) (later (c .control)))
       go true = refl
       go false = rw (k .soonest, k .ticks, order-full (c .settings) (c .table) (later (c .control)))
 
 -- ---- and leaves a cabinet that keeps the soonest
 
-unless-kept : (j : ℕ) (c : Cabinet) (m : Stepped) → Kept c → Kept (m .cabinet) → Kept (unless j c m .cabinet)
-unless-kept zero c m k l = l
-unless-kept (suc j) c m k l = k
-
 module _ (c : Cabinet) (k : Kept c) where
+  by-kept : (j : ℕ) (m : Stepped) → Kept (m .cabinet) → Kept (unless j (refused c) m .cabinet)
+  by-kept j m l = unless-has (λ (j : ℕ) (m : Stepped). Kept (m .cabinet)) j (refused c) m (λ j. k) (λ z. l)
+
   put-kept : (n : ℕ) (standing : Standing) → Kept (fullPut c n standing .cabinet)
   put-kept n standing = record { ticks = refl; formed = put-formed (c .table) n standing (k .formed); soonest = refl }
 
   pub approach-kept : (n : ℕ) → Kept (fullApproached c n .cabinet)
   unfolding fullApproached
-  approach-kept n = unless-kept (approachRefusal n (standingOf (c .table) n)) c _ k (put-kept n (Coming (c .control .now)))
+  approach-kept n = by-kept (approachRefusal n (standingOf (c .table) n)) _ (put-kept n (Coming (c .control .now)))
 
   pub leave-kept : (n : ℕ) → Kept (fullLeft c n .cabinet)
   unfolding fullLeft
-  leave-kept n = unless-kept (leaveRefusal n (standingOf (c .table) n)) c _ k (put-kept n Away)
+  leave-kept n = by-kept (leaveRefusal n (standingOf (c .table) n)) _ (put-kept n Away)
 
   pub clock-kept : Kept (fullClocked c .cabinet)
   unfolding fullClocked
-  clock-kept = unless-kept (refuse (leb 9999999 (c .control .now)) 10 0) c _ k (record { ticks = refl; formed = k .formed; soonest = refl })
+  clock-kept = by-kept (refuse (leb 9999999 (c .control .now)) 10 0) _ (record { ticks = refl; formed = k .formed; soonest = refl })

@@ -1,5 +1,5 @@
 -- Laws of the cabinet's steps. Assumes nothing.
-use Prim.Native.Nat.{ℕ, zero, suc}
+use Prim.Native.Nat.{ℕ}
 use mathlib.Core.Path.{_≡_, refl}
 use mathlib.Core.Bool.{true, false, not, true≢false}
 use borrow.Author.Tests.{not-false}
@@ -7,13 +7,7 @@ use Rattle.settings.proofs.Laws.{refuse-none}
 use Rattle.trains.specs.declared.Standing.{Standing}
 use Rattle.trains.specs.declared.Standing.the-variants.{Away, Coming, Inside}
 use Rattle.trains.specs.Trains.{isTrain, isPresent}
-use Rattle.cabinet.specs.declared.Cabinet.{Cabinet}
-use Rattle.cabinet.specs.Cabinet.{stepped, refused, approachRefusal, leaveRefusal}
-
--- a number above 0 refuses
-pub stepped-refused : (k : ℕ) → (k ≡ 0 → ⊥) → (was becomes : Cabinet) → stepped k was becomes ≡ refused was k
-stepped-refused zero h was becomes = absurd (h refl)
-stepped-refused (suc k) h was becomes = refl
+use Rattle.cabinet.specs.Cabinet.{approachRefusal, leaveRefusal}
 
 -- an approach that is taken is one of a train that is away
 pub approach-says : (n : ℕ) (standing : Standing) → approachRefusal n standing ≡ 0 → (isTrain n ≡ true) × (standing ≡ Away)

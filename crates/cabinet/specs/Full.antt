@@ -1,10 +1,10 @@
 -- The cabinet's steps by the full look, as document 01 has them ("Cabinet"): at every look each train of the table is asked, and the train
 -- that is kept beside the table decides nothing; it is written anew from the table (document 02, "Eight"). Assumes nothing.
-use Prim.Native.Nat.{ℕ, zero, suc}
+use Prim.Native.Nat.{ℕ}
 use mathlib.Core.Path.{_≡_}
 use lib.Dec.{leb}
 use Rattle.settings.specs.declared.Settings.{Settings}
-use Rattle.settings.specs.Refusal.{refuse}
+use Rattle.settings.specs.Refusal.{refuse, unless}
 use Rattle.settings.specs.Settings.{ticksOf}
 use Rattle.trains.specs.declared.Standing.{Standing}
 use Rattle.trains.specs.declared.Standing.the-variants.{Away, Coming}
@@ -13,12 +13,12 @@ use Rattle.trains.specs.declared.Table.{Table}
 use Rattle.trains.specs.Table.{standingOf, put, dueBy, WellFormed}
 use Rattle.trains.specs.First.{firstIn}
 use Rattle.cabinet.specs.declared.Order.{Order}
-use Rattle.cabinet.specs.declared.Answer.the-variants.{Taken, Refused}
+use Rattle.cabinet.specs.declared.Answer.the-variants.{Taken}
 use Rattle.cabinet.specs.declared.Control.{Control}
 use Rattle.cabinet.specs.declared.Controlled.{Controlled}
 use Rattle.cabinet.specs.declared.Cabinet.{Cabinet}
 use Rattle.cabinet.specs.declared.Stepped.{Stepped}
-use Rattle.cabinet.specs.Cabinet.{horizon, orderFor, commandAfter, later, approachRefusal, leaveRefusal}
+use Rattle.cabinet.specs.Cabinet.{horizon, orderFor, commandAfter, later, refused, approachRefusal, leaveRefusal}
 
 -- what is kept is what settings and table say: D and U, and the soonest due present train, of equals the lowest number
 pub record Kept (c : Cabinet) : Type 0 where
@@ -47,23 +47,18 @@ fullLooked s t w =
 
 -- ---- the steps
 
--- a step with this refusal number, 0 for none: the same cabinet back, or what the step gives
-abbrev pub unless : ℕ → Cabinet → Stepped → Stepped
-unless zero was gives = gives
-unless (suc k) was gives = record { answer = Refused (suc k); cabinet = was }
-
 -- a standing put, and the full look
 abbrev pub fullPut : Cabinet → ℕ → Standing → Stepped
 fullPut c n standing = fullLooked (c .settings) (put (c .table) n standing) (c .control)
 
 -- approach: away becomes coming since now
 unfoldable pub fullApproached : Cabinet → ℕ → Stepped
-fullApproached c n = unless (approachRefusal n (standingOf (c .table) n)) c (fullPut c n (Coming (c .control .now)))
+fullApproached c n = unless (approachRefusal n (standingOf (c .table) n)) (refused c) (fullPut c n (Coming (c .control .now)))
 
 -- leave: a present train becomes away
 unfoldable pub fullLeft : Cabinet → ℕ → Stepped
-fullLeft c n = unless (leaveRefusal n (standingOf (c .table) n)) c (fullPut c n Away)
+fullLeft c n = unless (leaveRefusal n (standingOf (c .table) n)) (refused c) (fullPut c n Away)
 
 -- clock: one tick
 unfoldable pub fullClocked : Cabinet → Stepped
-fullClocked c = unless (refuse (leb 9999999 (c .control .now)) 10 0) c (fullLooked (c .settings) (c .table) (later (c .control)))
+fullClocked c = unless (refuse (leb 9999999 (c .control .now)) 10 0) (refused c) (fullLooked (c .settings) (c .table) (later (c .control)))

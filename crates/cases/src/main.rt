@@ -29,7 +29,7 @@ fn show_answer(a: Answer) {
     if letter == 0 {
         show(runs::number_byte(a) as u64);
     } else {
-        print(&[32, letter]);
+        print(&[b' ', letter]);
     }
 }
 

@@ -54,7 +54,8 @@ pub extern "C" fn weqhaso_run(
     orders: &mut [u8],
 ) -> u8
     ensures { λ r. ⌜ Answered (settingsOf e f p q w x y) (stepsOf (now (letters .entry)) (now (numbers .entry)) (now (readings .entry)))
-        (runRefusal (settingsOf e f p q w x y) (now (letters .entry)) (length (now (numbers .entry))) (length (now (readings .entry))) (length (now (answers .entry))) (length (now (orders .entry))))
+        (runRefusal (settingsOf e f p q w x y) (now (letters .entry)) (length (now (numbers .entry))) (length (now (readings .entry)))
+        (length (now (answers .entry))) (length (now (orders .entry))))
         r (now (answers .entry)) (now (answers .exit)) (now (orders .entry)) (now (orders .exit)) ⌝ }
 {
     let s = settings_of(e, f, p, q, w, x, y);
@@ -108,8 +109,9 @@ fn write_bench(b: Bench, state: &mut [u32])
     }
 }
 
-// A run as `weqhaso_run` does it, and the bench after it in the first 196 places of `state`: instant, angle, angle before, command (0 up, 1 down),
-// then for each train 1 to 96 its standing (0 away, 1 coming, 2 inside) and the instant of its approach. 14 last, where there are fewer places.
+// A run as `weqhaso_run` does it, and the bench after it in the first 196 places of `state`: instant, angle, angle before, command
+// (0 up, 1 down), then for each train 1 to 96 its standing (0 away, 1 coming, 2 inside) and the instant of its approach. 14 last, where
+// there are fewer places.
 #[no_mangle]
 pub extern "C" fn weqhaso_state(
     e: u32,
@@ -126,9 +128,12 @@ pub extern "C" fn weqhaso_state(
     orders: &mut [u8],
     state: &mut [u32],
 ) -> u8
-    ensures { λ r. ⌜ StateAnswered (settingsOf e f p q w x y) (stepsOf (now (letters .entry)) (now (numbers .entry)) (now (readings .entry)))
-        (stateRefusal (settingsOf e f p q w x y) (now (letters .entry)) (length (now (numbers .entry))) (length (now (readings .entry))) (length (now (answers .entry))) (length (now (orders .entry))) (length (now (state .entry))))
-        r (now (answers .entry)) (now (answers .exit)) (now (orders .entry)) (now (orders .exit)) (now (state .entry)) (now (state .exit)) ⌝ }
+    ensures { λ r. ⌜ StateAnswered (settingsOf e f p q w x y)
+        (stepsOf (now (letters .entry)) (now (numbers .entry)) (now (readings .entry)))
+        (stateRefusal (settingsOf e f p q w x y) (now (letters .entry)) (length (now (numbers .entry))) (length (now (readings .entry)))
+        (length (now (answers .entry))) (length (now (orders .entry))) (length (now (state .entry))))
+        r (now (answers .entry)) (now (answers .exit)) (now (orders .entry)) (now (orders .exit))
+        (now (state .entry)) (now (state .exit)) ⌝ }
 {
     let s = settings_of(e, f, p, q, w, x, y);
     let own = runs::run_refusal(
@@ -147,8 +152,8 @@ pub extern "C" fn weqhaso_state(
     k
 }
 
-// A recorder under the settings, taken through a list of steps in the lent record (`recording::record_run`): 256 times the bytes of the record,
-// up to the end of its last line, and the refusal number of the whole; each step's refusal number is written beside it.
+// A recorder under the settings, taken through a list of steps in the lent record (`recording::record_run`): 256 times the bytes of the
+// record, up to the end of its last line, and the refusal number of the whole; each step's refusal number is written beside it.
 #[no_mangle]
 pub extern "C" fn weqhaso_record(
     e: u32,
@@ -164,8 +169,10 @@ pub extern "C" fn weqhaso_record(
     answers: &mut [u8],
     out: &mut [u8],
 ) -> u64
-    ensures { λ r. ⌜ RecordAnswered (settingsOf e f p q w x y) (stepsOf (now (letters .entry)) (now (numbers .entry)) (now (readings .entry)))
-        (recordRefusal (settingsOf e f p q w x y) (now (letters .entry)) (length (now (numbers .entry))) (length (now (readings .entry))) (length (now (answers .entry))) (length (now (out .entry))))
+    ensures { λ r. ⌜ RecordAnswered (settingsOf e f p q w x y)
+        (stepsOf (now (letters .entry)) (now (numbers .entry)) (now (readings .entry)))
+        (recordRefusal (settingsOf e f p q w x y) (now (letters .entry)) (length (now (numbers .entry))) (length (now (readings .entry)))
+        (length (now (answers .entry))) (length (now (out .entry))))
         r (now (answers .entry)) (now (answers .exit)) (now (out .entry)) (now (out .exit)) ⌝ }
 {
     let s = settings_of(e, f, p, q, w, x, y);
@@ -228,7 +235,8 @@ fn found_number(found: bool, running: bool) -> usize
     }
 }
 
-// An answer by numbers: its cursor's place, instant, whether the arm is below 90 degrees, and trains inside; what is found, its first and its last instant.
+// An answer by numbers: its cursor's place, instant, whether the arm is below 90 degrees, and trains inside; what is found, its first and
+// its last instant.
 fn write_next(n: Next, places: &mut [usize])
     requires { ⌜ 7 ≤ length (now places) ⌝ }
     ensures { λ _. ⌜ now (places .exit) ≡ over (nextNumbers n) (now (places .entry)) ⌝ }
@@ -246,7 +254,8 @@ fn write_next(n: Next, places: &mut [usize])
 
 // The next answer from the cursor in the first four places on, in their place.
 fn next_into(which: Sort, text: &[u8], places: &mut [usize]) -> u8
-    ensures { λ r. ⌜ Placed (nextNumbers (nextFrom which (now (text .entry)) (cursorIn (now (places .entry))))) (now (places .entry)) r (now (places .exit)) ⌝ }
+    ensures { λ r. ⌜ Placed (nextNumbers (nextFrom which (now (text .entry)) (cursorIn (now (places .entry)))))
+        (now (places .entry)) r (now (places .exit)) ⌝ }
 {
     if places.len() < 7 {
         return 14;
@@ -279,11 +288,12 @@ pub extern "C" fn weqhaso_start(places: &mut [usize]) -> u8
     0
 }
 
-// The next stretch with the arm below 90 degrees (`stretches::next_lowered`), from the cursor in the first four places on: the cursor after it there,
-// and in the other three 0 none, 1 ended or 2 running, its first and its last instant. 0, or 14 where there are fewer places.
+// The next stretch with the arm below 90 degrees (`stretches::next_lowered`), from the cursor in the first four places on: the cursor after
+// it there, and in the other three 0 none, 1 ended or 2 running, its first and its last instant. 0, or 14 where there are fewer places.
 #[no_mangle]
 pub extern "C" fn weqhaso_next_lowered(text: &[u8], places: &mut [usize]) -> u8
-    ensures { λ r. ⌜ Placed (nextNumbers (nextFrom Lowered (now (text .entry)) (cursorIn (now (places .entry))))) (now (places .entry)) r (now (places .exit)) ⌝ }
+    ensures { λ r. ⌜ Placed (nextNumbers (nextFrom Lowered (now (text .entry)) (cursorIn (now (places .entry)))))
+        (now (places .entry)) r (now (places .exit)) ⌝ }
 {
     next_into(Sort::Lowered, text, places)
 }
@@ -291,7 +301,8 @@ pub extern "C" fn weqhaso_next_lowered(text: &[u8], places: &mut [usize]) -> u8
 // The next stretch with some train inside (`stretches::next_occupied`), in the same way.
 #[no_mangle]
 pub extern "C" fn weqhaso_next_occupied(text: &[u8], places: &mut [usize]) -> u8
-    ensures { λ r. ⌜ Placed (nextNumbers (nextFrom Occupied (now (text .entry)) (cursorIn (now (places .entry))))) (now (places .entry)) r (now (places .exit)) ⌝ }
+    ensures { λ r. ⌜ Placed (nextNumbers (nextFrom Occupied (now (text .entry)) (cursorIn (now (places .entry)))))
+        (now (places .entry)) r (now (places .exit)) ⌝ }
 {
     next_into(Sort::Occupied, text, places)
 }

@@ -8,7 +8,8 @@ ghost use Rattle.lines.specs.Bytes.{splice};
 ghost use Rattle.record.specs.Text.{current};
 ghost use Rattle.reader.specs.Read.{readText};
 ghost use Rattle.reader.specs.Round.{runOf};
-ghost use Rattle.report.specs.Report.{reportLine, stretchLine, runReport, refusalReport, reportOf, writtenBytes, shortBuffer, Written};
+ghost use Rattle.report.specs.Report.{reportLine, stretchLine, runReport, refusalReport, reportOf};
+ghost use Rattle.report.specs.Report.{writtenBytes, shortBuffer, Written};
 ghost use Rattle.report.specs.Rows.{comesFirst, rowLines, Space};
 use settings::Verdict;
 use stretches::Next;
@@ -28,9 +29,9 @@ fn write_row(out: &mut [u8], at: usize, n: u32, m: u32, letter: u8)
 {
     lines::put_number(out, at, 8, n);
     lines::put_number(out, at + 8, 8, m);
-    out[at + 16] = 32;
+    out[at + 16] = b' ';
     out[at + 17] = letter;
-    out[at + 18] = 10;
+    out[at + 18] = b'\n';
 }
 
 // The capital, or the small letter of a stretch that is still running.
@@ -129,7 +130,7 @@ fn report_refusal(number: u8, line: usize, out: &mut [u8]) -> Reported
     }
 }
 
-// The report of a record text of any bytes, into a lent buffer: as many bytes as its lines have are written, or, where they do not fit, none.
+// The report of a record text of any bytes, into a lent buffer: as many bytes as its lines have are written, or none where they do not fit.
 pub fn report(text: &[u8], out: &mut [u8]) -> Reported
     ensures { λ r. ⌜ Written (reportOf (now (text .entry))) (now (out .entry)) r (now (out .exit)) ⌝ }
 {

@@ -12,7 +12,7 @@ use lib.Dec.{leb, ltb, eqb}
 use lib.Ieee.{Float}
 use borrow.Author.Tests.{eqb-true, eqb-false, eq-eqb, ne-eqb, le-leb, lt-leb}
 use Rattle.settings.specs.declared.Settings.{Settings}
-use Rattle.settings.specs.Refusal.{refuse}
+use Rattle.settings.specs.Refusal.{refuse, unless}
 use Rattle.settings.specs.Settings.{ticksOf}
 use Rattle.arm.specs.declared.Command.{Command}
 use Rattle.arm.specs.declared.Command.the-variants.{Up, Down}
@@ -36,7 +36,7 @@ use Rattle.bench.specs.declared.Motion.{Motion}
 use Rattle.bench.specs.declared.Bench.{Bench}
 use Rattle.bench.specs.declared.Moved.{Moved}
 use Rattle.bench.specs.Bench.{nowOf, commandOf, armOf, standsAt, freshHead, freshBench, occupyRefusal, benchLeaveRefusal}
-use Rattle.bench.specs.Full.{Kept, fullLooked, fullPut, fullEntered, fullSensed, fullClockRefusal, fullClocked, unless}
+use Rattle.bench.specs.Full.{Kept, fullLooked, fullPut, fullEntered, fullSensed, fullClockRefusal, fullClocked, refused}
 use Rattle.bench.proofs.Kept.{kept-fresh}
 use Rattle.runs.specs.declared.Step.{Step}
 use Rattle.runs.specs.declared.Step.the-variants.{Approach, Occupy, Leave, Clock}
@@ -227,11 +227,11 @@ module _ (s : Settings) (h : History) (b : Bench) (m : Match s h b) where
   with-arm x t w p arms = record { answer = p .answer; core = p .core; command = p .command; angle = arms }
 
   -- a step of the full look with its refusal number
-  by-number : (x : Step) (j : ℕ) (gives : Moved) → j ≡ verdict s h x → (verdict s h x ≡ 0 → Takes s h x gives) → Kept (unless j b gives .bench) →
-      Stands s h x (verdict s h x) (unless j b gives)
+  by-number : (x : Step) (j : ℕ) (gives : Moved) → j ≡ verdict s h x → (verdict s h x ≡ 0 → Takes s h x gives) → Kept (unless j (refused b) gives .bench) →
+      Stands s h x (verdict s h x) (unless j (refused b) gives)
   by-number x j gives e takes k = rw (← e) (go j (λ z. takes (sym e ∙ z)) k)
     where
-      go : (j : ℕ) → (j ≡ 0 → Takes s h x gives) → Kept (unless j b gives .bench) → Stands s h x j (unless j b gives)
+      go : (j : ℕ) → (j ≡ 0 → Takes s h x gives) → Kept (unless j (refused b) gives .bench) → Stands s h x j (unless j (refused b) gives)
       go zero takes k = let p = takes refl in record { answer = p .answer; match = record { core = p .core; command = p .command; angle = p .angle; kept = k } }
       go (suc j) takes k = record { answer = refl; match = m }
 

@@ -1,4 +1,4 @@
-// The sample record of document 01, written by the recorder, printed and read back, and texts damaged from it, each with the reader's verdict.
+// The sample record of document 01, written by the recorder, printed and read back, and texts damaged from it with the reader's verdicts.
 use libc::STDOUT_FILENO;
 use record::Recorded;
 use runs::Step;

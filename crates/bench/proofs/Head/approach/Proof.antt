@@ -1,6 +1,6 @@
 -- `bench::Head::approach` meets its contract. Assumes nothing.
 use Rattle.bench.specs.Bench.{headApproached}
-use Rattle.bench.proofs.Laws.{sense-refused}
+use Rattle.settings.proofs.Laws.{unless-refused}
 use borrow.Author.Needs.{needs}
 use Rattle.bench.proofs.Head.approach.Statement.{statement}
 use Rattle.bench.proofs.Head.approach.Tie as tie
@@ -32,7 +32,7 @@ unsensed-requires c κs = search needs
 
 returns-2 : tie.Need-returns-2
 unfolding headApproached
-returns-2 c = simp (c .unsensed .ensures, sense-refused _ (c .before .if1 .left), ← (c .before .before .approach-refusal .ensures))
+returns-2 c = rw (c .unsensed .ensures, ← (c .before .before .approach-refusal .ensures), unless-refused _ (c .before .if1 .left))
 
 pub approach-spec : {M : Type 1} → statement M
 approach-spec =

@@ -1,6 +1,6 @@
 -- `bench::Head::leave` meets its contract. Assumes nothing.
 use Rattle.bench.specs.Bench.{headLeft}
-use Rattle.bench.proofs.Laws.{sense-refused}
+use Rattle.settings.proofs.Laws.{unless-refused}
 use borrow.Author.Needs.{needs}
 use Rattle.bench.proofs.Head.leave.Statement.{statement}
 use Rattle.bench.proofs.Head.leave.Tie as tie
@@ -20,7 +20,7 @@ unsensed-requires c κs = search needs
 
 returns-2 : tie.Need-returns-2
 unfolding headLeft
-returns-2 c = simp (c .unsensed .ensures, sense-refused _ (c .before .if1 .left), ← (c .before .before .leave-refusal .ensures))
+returns-2 c = rw (c .unsensed .ensures, ← (c .before .before .leave-refusal .ensures), unless-refused _ (c .before .if1 .left))
 
 pub leave-spec : {M : Type 1} → statement M
 leave-spec =

@@ -1,6 +1,6 @@
 -- `bench::Head::occupy` meets its contract. Assumes nothing.
 use Rattle.bench.specs.Bench.{headOccupied}
-use Rattle.bench.proofs.Laws.{sense-refused}
+use Rattle.settings.proofs.Laws.{unless-refused}
 use borrow.Author.Needs.{needs}
 use Rattle.bench.proofs.Head.occupy.Statement.{statement}
 use Rattle.bench.proofs.Head.occupy.Tie as tie
@@ -20,7 +20,7 @@ unsensed-requires c κs = search needs
 
 returns-2 : tie.Need-returns-2
 unfolding headOccupied
-returns-2 c = simp (c .unsensed .ensures, sense-refused _ (c .before .if1 .left), ← (c .before .before .occupy-refusal .ensures))
+returns-2 c = rw (c .unsensed .ensures, ← (c .before .before .occupy-refusal .ensures), unless-refused _ (c .before .if1 .left))
 
 pub occupy-spec : {M : Type 1} → statement M
 occupy-spec =

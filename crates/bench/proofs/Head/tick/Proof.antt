@@ -1,7 +1,8 @@
 -- `bench::Head::tick` meets its contract. Assumes nothing.
 use Rattle.bench.specs.Bench.{headTicked}
 use mathlib.Core.Path.{sym, _∙_}
-use Rattle.bench.proofs.Laws.{tick-refused, unread-refused}
+use Rattle.settings.proofs.Laws.{unless-refused}
+use Rattle.bench.proofs.Laws.{unread-refused}
 use borrow.Author.Needs.{needs}
 use Rattle.bench.proofs.Head.tick.Statement.{statement}
 use Rattle.bench.proofs.Head.tick.Tie as tie
@@ -27,7 +28,7 @@ returns-2 c = absurd (unread-refused _ _ (c .enum-told .given .1) (sym (c .befor
 
 returns-3 : tie.Need-returns-3
 unfolding headTicked
-returns-3 c = simp (← (c .before .before .clock-refusal .ensures), tick-refused _ (c .if1 .left))
+returns-3 c = rw (← (c .before .before .clock-refusal .ensures), unless-refused _ (c .if1 .left))
 
 pub tick-spec : {M : Type 1} → statement M
 tick-spec =
