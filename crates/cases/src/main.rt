@@ -6,7 +6,6 @@ use bench::Moved;
 use cabinet::Answer;
 use libc::STDOUT_FILENO;
 use runs::Step;
-use settings::Settings;
 use settings::Verdict;
 
 // ---- what is shown
@@ -51,23 +50,6 @@ fn show_reading(degrees: f32) {
 
 // ---- settings
 
-// The settings K of document 01, with another earliest, rise rate, ahead or behind margin.
-fn settings_like(earliest: u32, rise: u32, ahead: u32, behind: u32) -> Settings {
-    Settings {
-        earliest: earliest,
-        latest: 4,
-        fall: 2880,
-        rise: rise,
-        worthwhile: 0,
-        ahead: ahead,
-        behind: behind,
-    }
-}
-
-fn settings_k() -> Settings {
-    settings_like(3, 5760, 3, 1)
-}
-
 // D for five fall rates.
 fn case_a() {
     print(b"a");
@@ -82,20 +64,20 @@ fn case_a() {
 // K, and K with E 2; with X 2; with Q 2880 and with Y 0.
 fn cases_b_c_d() {
     print(b"b");
-    show_verdict(settings::check(settings_k()));
-    show_verdict(settings::check(settings_like(2, 5760, 3, 1)));
+    show_verdict(settings::check(worked::settings_k()));
+    show_verdict(settings::check(worked::settings_like(2, 5760, 3, 1)));
     print(b"\nc");
-    show_verdict(settings::check(settings_like(3, 5760, 2, 1)));
+    show_verdict(settings::check(worked::settings_like(3, 5760, 2, 1)));
     print(b"\nd");
-    show_verdict(settings::check(settings_like(3, 2880, 3, 1)));
-    show_verdict(settings::check(settings_like(3, 5760, 3, 0)));
+    show_verdict(settings::check(worked::settings_like(3, 2880, 3, 1)));
+    show_verdict(settings::check(worked::settings_like(3, 5760, 3, 0)));
     print(b"\n");
 }
 
 // ---- benches under K
 
 fn fresh() -> Bench {
-    let m = bench::start(settings_k());
+    let m = bench::start(worked::settings_k());
     m.bench
 }
 
@@ -200,7 +182,7 @@ fn sample() {
     let mut text = [0u8; 285];
     let mut lines = [0u8; 57];
     recording::record_run(
-        settings_k(),
+        worked::settings_k(),
         b"ATTTOTLT",
         &[1u32, 0, 0, 0, 1, 0, 1, 0],
         &[0.0f32, 90.0, 45.0, 0.0, 0.0, 0.0, 0.0, 90.0],

@@ -2,21 +2,7 @@
 use libc::STDOUT_FILENO;
 use record::Recorded;
 use runs::Step;
-use settings::Settings;
 use settings::Verdict;
-
-// The settings K of document 01.
-fn settings_k() -> Settings {
-    Settings {
-        earliest: 3,
-        latest: 4,
-        fall: 2880,
-        rise: 5760,
-        worthwhile: 0,
-        ahead: 3,
-        behind: 1,
-    }
-}
 
 // A step of the recorder, and the recorder after it.
 fn after(r: Recorded, x: Step, out: &mut [u8]) -> Recorded {
@@ -26,7 +12,7 @@ fn after(r: Recorded, x: Step, out: &mut [u8]) -> Recorded {
 
 // The sample up to its command down.
 fn lowered(out: &mut [u8]) -> Recorded {
-    let r0 = record::start(settings_k(), out);
+    let r0 = record::start(worked::settings_k(), out);
     let r1 = after(r0, Step::Approach(1), out);
     after(r1, Step::Clock(90.0), out)
 }

@@ -1,17 +1,22 @@
--- What the proof of `gives` cites: values written over a buffer are its first places. Assumes nothing.
-use Prim.Native.Nat.{ℕ}
-use mathlib.Core.Path.{_≡_, _∙_}
-use mathlib.Core.Bool.{Bool, true, _&&_}
-use mathlib.Core.List.{List}
-use lib.ListN.{length, take, drop}
-use lib.Seq.{take-at}
-use Rattle.runs.specs.Run.{over, written}
+-- A table's rule, by one test that is computed over the whole table. Assumes nothing.
+use Prim.Native.Nat.{ℕ, zero, suc, _≤_, _<_}
+use native.Mathlib.Omega.{arith}
+use mathlib.Core.Path.{_≡_, ap}
+use mathlib.Core.List.{List, [], _∷_, map}
+use lib.ListN.{length, getD}
+use borrow.Author.Tests.{leb-true}
+use Rattle.starred.specs.declared.Listed.{Listed}
+use Rattle.starred.specs.Tables.{Same, ruled, expected}
 
--- where nothing refused the run, the first places hold the values
-pub written-first : (k n : ℕ) (new old after want : List ℕ) → k ≡ 0 → after ≡ written k new old → new ≡ want → length want ≡ n → take n after ≡ want
-written-first k n new old after want z e p l =
-    let w : after ≡ over want old = e ∙ rw (z, p) in
-    rw w (take-at want (drop (length want) old) n l)
+-- two readings that give the same for the whole table give the same for each of its rows
+pub each : {A B : Type 0} {f g : A → B} {rows : List A} (d : A) → Same f g rows → (i : ℕ) → i < length rows → f (getD rows i d) ≡ g (getD rows i d)
+each {A} {B} {f} {g} {rows} d same = go rows (same .whole)
+  where
+    go : (rows : List A) → map f rows ≡ map g rows → (i : ℕ) → i < length rows → f (getD rows i d) ≡ g (getD rows i d)
+    go [] e i h = absurd (omega arith)
+    go (x ∷ rows) e zero h = cc
+    go (x ∷ rows) e (suc i) h = go rows (cc) i (omega arith)
 
-pub both-hold : (a b : Bool) → a ≡ true → b ≡ true → (a && b) ≡ true
-both-hold a b p q = rw (p, q)
+-- there are letters for the steps of a list that is as expected
+pub letters-fit : (x : Listed) → ruled x ≡ expected x → x .steps ≤ length (x .letters)
+letters-fit x e = leb-true (x .steps) (length (x .letters)) (ap (λ r. r .0) e)

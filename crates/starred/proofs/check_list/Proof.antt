@@ -1,0 +1,73 @@
+-- `starred::check_list`: what `run` writes is what the rules give, and so what is expected. Assumes nothing.
+use native.Mathlib.Omega.{arith}
+use mathlib.Core.Path.{_∙_, ap}
+use lib.ListN.{length-take}
+use Rattle.starred.proofs.Laws.{letters-fit}
+use borrow.Author.Needs.{needs}
+use Rattle.starred.proofs.check_list.Statement.{statement}
+use Rattle.starred.proofs.check_list.Tie as tie
+
+settings-k-requires : tie.Need-settings-k-requires
+settings-k-requires c κs = search needs
+
+array-share-prefix-letters : tie.Need-array-share-prefix-letters
+array-share-prefix-letters c = letters-fit _ (c .before .before .before .before .pre)
+
+slice-aggregate-run : tie.Need-slice-aggregate-run
+slice-aggregate-run c = simp length-take (omega (arith, letters-fit (c .before .before .before .before .before .args .t1) (c .before .before .before .before .before .pre)))
+
+slice-aggregate-run-2 : tie.Need-slice-aggregate-run-2
+slice-aggregate-run-2 c = search needs
+
+slice-aggregate-run-3 : tie.Need-slice-aggregate-run-3
+slice-aggregate-run-3 c = search needs
+
+slice-aggregate-run-4 : tie.Need-slice-aggregate-run-4
+slice-aggregate-run-4 c = search needs
+
+slice-aggregate-run-5 : tie.Need-slice-aggregate-run-5
+slice-aggregate-run-5 c = search needs
+
+run-requires : tie.Need-run-requires
+run-requires c κs = search needs
+
+slice-aggregate-same : tie.Need-slice-aggregate-same
+slice-aggregate-same c = search needs
+
+same-requires : tie.Need-same-requires
+same-requires c κs = search needs
+
+slice-aggregate-same-2 : tie.Need-slice-aggregate-same-2
+slice-aggregate-same-2 c = search needs
+
+same-requires-2 : tie.Need-same-requires-2
+same-requires-2 c κs = search needs
+
+expect-requires : tie.Need-expect-requires
+expect-requires c κs =
+    let k = c .before .before .before .before .before .before .before .before .before .before .before .before in
+    let right = k .before .before .before .before .before .before .before .before .before .before .pre in
+    let ran = rw (k .before .before .before .before .before .before .settings-k .ensures) at (k .run .ensures) in
+    rw (c .before .before .before .before .before .same .ensures .1 (ran .answered ∙ rw (ap (λ r. r .1) right) (ap (λ r. r .2) right)), c .same2 .ensures .1 (ran .ordered ∙ rw (ap (λ r. r .1) right) (ap (λ r. r .3) right)))
+
+returns : tie.Need-returns
+returns c = search needs
+
+pub check-list-spec : {M : Type 1} → statement M
+check-list-spec =
+    tie.close
+    (tie.spec
+    settings-k-requires
+    array-share-prefix-letters
+    slice-aggregate-run
+    slice-aggregate-run-2
+    slice-aggregate-run-3
+    slice-aggregate-run-4
+    slice-aggregate-run-5
+    run-requires
+    slice-aggregate-same
+    same-requires
+    slice-aggregate-same-2
+    same-requires-2
+    expect-requires
+    returns)

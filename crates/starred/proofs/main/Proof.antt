@@ -1,0 +1,28 @@
+-- `starred::main`: the rules give what every row of the tables expects. Assumes nothing.
+use mathlib.Core.Path.{refl}
+use lib.Ieee.{ofBits}
+use Rattle.settings.specs.Settings as settings
+use Rattle.settings.specs.Settings.{ticksFor, inRange, settingsRefusal}
+use Rattle.arm.specs.Shown.{readingOf}
+use Rattle.arm.specs.Movement.{mayMove}
+use Rattle.trains.specs.Trains.{isTrain}
+use Rattle.runs.specs.History.{dueAt, latestAt, someTrain, command, verdict, verdicts, orders}
+use Rattle.runs.specs.Letters.{letterOf}
+use Rattle.runs.specs.Run.{allSteps, stepsOf, runRefusal}
+use borrow.Author.Needs.{needs}
+use Rattle.starred.proofs.main.Statement.{statement}
+use Rattle.starred.proofs.main.Tie as tie
+
+check-settings-requires : tie.Need-check-settings-requires
+unfolding ticksFor inRange settingsRefusal settings.verdict
+check-settings-requires c κs = (record { whole = refl }, record { whole = refl })
+
+check-lists-requires : tie.Need-check-lists-requires
+unfolding runRefusal settingsRefusal inRange ticksFor allSteps letterOf stepsOf verdicts orders verdict command someTrain dueAt latestAt isTrain readingOf mayMove ofBits
+check-lists-requires c κs = record { whole = refl }
+
+returns : tie.Need-returns
+returns c = search needs
+
+pub main-spec : {M : Type 1} → statement M
+main-spec = tie.close (tie.spec check-settings-requires check-lists-requires returns)

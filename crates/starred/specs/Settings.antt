@@ -1,7 +1,0 @@
--- The settings K of document 01 ("Report program"), with another earliest, rise rate, ahead or behind margin. Assumes nothing.
-use Prim.Native.Nat.{ℕ}
-use Rattle.settings.specs.declared.Settings.{Settings}
-
--- K is like 3 5760 3 1
-unfoldable pub like : ℕ → ℕ → ℕ → ℕ → Settings
-like e q x y = record { earliest = e; latest = 4; fall = 2880; rise = q; worthwhile = 0; ahead = x; behind = y }
