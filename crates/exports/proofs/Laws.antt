@@ -13,14 +13,14 @@ use Rattle.cabinet.specs.declared.Answer.the-variants.{Taken}
 use Rattle.cabinet.specs.Cabinet as cabinet
 use Rattle.runs.specs.declared.Step.{Step}
 use Rattle.runs.specs.declared.Finished.{Finished}
-use Rattle.runs.specs.Run.{finishedBy, written, Ran}
-use Rattle.record.specs.declared.Recorded.{Recorded}
+use Rattle.runs.specs.Run.{finishedBy, unlessRefused, Ran}
+use Rattle.recorder.specs.declared.Recorded.{Recorded}
 use Rattle.lines.specs.Layout.{lineBytes}
-use Rattle.record.specs.Text.{current, text}
-use Rattle.record.specs.Recorder.{startAnswer}
-use Rattle.record.specs.Recording.{begun, recordedAfter, runSoFar}
-use Rattle.recording.specs.RunRecorded.{recordedRun, recordedBytes, RunRecorded}
-use Rattle.record.proofs.Recording.{keeps-always, ends-always}
+use Rattle.recorder.specs.Text.{current, text}
+use Rattle.recorder.specs.Recorder.{startIn}
+use Rattle.recorder.specs.Recording.{freshRecording, recordedAfter, runSoFar}
+use Rattle.recording.specs.RunRecorded.{runGives, runLeaves, RunRecorded}
+use Rattle.recorder.proofs.Recording.{keeps-always, ends-always}
 use Rattle.lines.specs.Bytes.{fits}
 use Rattle.report.specs.declared.Reported.{Reported}
 use Rattle.report.specs.Report.{writtenBytes, shortBuffer, Written}
@@ -44,7 +44,7 @@ answered-run s xs k r a b o p n ran e =
 
 module _ (s : Settings) (xs : List Step) (d : List ℕ) where
   -- the number of what comes back
-  number-recorded : (k : ℕ) → cabinet.numberOf (recordedRun k s d xs .answer) ≡ k
+  number-recorded : (k : ℕ) → cabinet.numberOf (runGives k s d xs .answer) ≡ k
   number-recorded zero = refl
   number-recorded (suc k) = refl
 
@@ -53,13 +53,13 @@ module _ (s : Settings) (xs : List Step) (d : List ℕ) where
   recorded = text current s (runSoFar s (length d) [] xs)
 
   -- its end is the end of the record, and within it
-  end-recorded : (k : ℕ) → k ≡ 0 → startAnswer s d ≡ Taken Nothing → (recordedRun k s d xs .recorder .at + lineBytes current ≡ length recorded) × (length recorded ≤ length d)
+  end-recorded : (k : ℕ) → k ≡ 0 → startIn s d ≡ Taken Nothing → (runGives k s d xs .recorder .at + lineBytes current ≡ length recorded) × (length recorded ≤ length d)
   end-recorded k z a = rw z (ends-always s d xs a)
 
   -- what the record holds is the text, and after it the bytes that were there
-  bytes-recorded : (k : ℕ) → (k ≡ 0 → startAnswer s d ≡ Taken Nothing) → recordedBytes k s d xs ≡ written k recorded d
+  bytes-recorded : (k : ℕ) → (k ≡ 0 → startIn s d ≡ Taken Nothing) → runLeaves k s d xs ≡ unlessRefused k recorded d
   bytes-recorded zero a =
-      let w = recordedAfter (begun s d) xs in
+      let w = recordedAfter (freshRecording s d) xs in
       let keeps = keeps-always s d xs (a refl) in
       let end : w .recorder .at + lineBytes current ≡ length recorded = ends-always s d xs (a refl) .0 in
       sym (take-append-drop (w .recorder .at + lineBytes current) (w .bytes)) ∙ rw (keeps .written, keeps .others, end)
@@ -70,7 +70,7 @@ module _ (s : Settings) (xs : List Step) (d : List ℕ) where
   count-recorded zero bytes p q = p refl
   count-recorded (suc k) bytes p q = q (λ z. omega arith)
 
-module _ (s : Settings) (xs : List Step) (k : ℕ) (r : Recorded) (answers answersAfter d e : List ℕ) (starts : k ≡ 0 → startAnswer s d ≡ Taken Nothing)
+module _ (s : Settings) (xs : List Step) (k : ℕ) (r : Recorded) (answers answersAfter d e : List ℕ) (starts : k ≡ 0 → startIn s d ≡ Taken Nothing)
     (ran : RunRecorded s xs k r answers answersAfter d e) (n : ℕ) (numbered : n ≡ cabinet.numberOf (r .answer)) where
   number-is : n ≡ k
   number-is = numbered ∙ ap (λ (g : Recorded). cabinet.numberOf (g .answer)) (ran .gives) ∙ number-recorded s xs d k

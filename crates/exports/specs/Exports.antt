@@ -8,10 +8,10 @@ use Rattle.settings.specs.declared.Settings.{Settings}
 use Rattle.settings.specs.Settings.{numberOf}
 use Rattle.runs.specs.declared.Step.{Step}
 use Rattle.runs.specs.History as rules
-use Rattle.runs.specs.Run.{written, orderByte}
+use Rattle.runs.specs.Run.{unlessRefused, orderByte}
 use Rattle.runs.specs.Demand.{Demand3}
-use Rattle.record.specs.Text.{current, text}
-use Rattle.record.specs.Recording.{recordVerdicts, runSoFar}
+use Rattle.recorder.specs.Text.{current, text}
+use Rattle.recorder.specs.Recording.{stepRefusalsIn, runSoFar}
 use Rattle.lines.specs.Bytes.{fits, splice}
 use Rattle.reader.specs.declared.Outcome.{Outcome}
 
@@ -22,8 +22,8 @@ settingsOf e f p q w x y = record { earliest = e; latest = f; fall = p; rise = q
 -- a run of a list xs with this refusal number: the number is answered, what the rules say of the list is written, and demand 3 holds for it
 pub record Answered (s : Settings) (xs : List Step) (k r : ℕ) (answers answersAfter orders ordersAfter : List ℕ) : Type 0 where
   pub number : r ≡ k
-  pub answered : answersAfter ≡ written k (rules.verdicts s [] xs) answers
-  pub ordered : ordersAfter ≡ written k (map orderByte (rules.orders s [] xs)) orders
+  pub answered : answersAfter ≡ unlessRefused k (rules.stepRefusals s [] xs) answers
+  pub ordered : ordersAfter ≡ unlessRefused k (map orderByte (rules.orders s [] xs)) orders
   pub demand : k ≡ 0 → Demand3 s xs
 
 -- 256 times a count, and a refusal number; the count up to 2 ^ 56
@@ -39,8 +39,8 @@ bytesOf (suc k) t = 0
 -- written beside it, and the text of its run into the record
 pub record RecordAnswered (s : Settings) (xs : List Step) (k r : ℕ) (answers answersAfter d e : List ℕ) : Type 0 where
   pub number : r ≡ pack (bytesOf k (text current s (runSoFar s (length d) [] xs))) k
-  pub numbered : answersAfter ≡ written k (recordVerdicts s (length d) [] xs) answers
-  pub bytes : e ≡ written k (text current s (runSoFar s (length d) [] xs)) d
+  pub numbered : answersAfter ≡ unlessRefused k (stepRefusalsIn s (length d) [] xs) answers
+  pub bytes : e ≡ unlessRefused k (text current s (runSoFar s (length d) [] xs)) d
 
 -- the line, and the number
 abbrev pub packed : Outcome → ℕ

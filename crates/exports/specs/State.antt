@@ -15,7 +15,7 @@ use Rattle.bench.specs.declared.Bench.{Bench}
 use Rattle.bench.specs.Bench.{nowOf, commandOf, armOf, freshBench}
 use Rattle.runs.specs.declared.Step.{Step}
 use Rattle.runs.specs.Steps.{benchAfter}
-use Rattle.runs.specs.Run.{orFull, runRefusal, written}
+use Rattle.runs.specs.Run.{orFull, runRefusal, unlessRefused}
 use Rattle.exports.specs.Exports.{Answered}
 
 -- 0 up, 1 down
@@ -45,4 +45,4 @@ stateRefusal s letters numbers readings answers orders places = orFull (runRefus
 -- a run of a list xs with this refusal number, and the bench after it written
 pub record StateAnswered (s : Settings) (xs : List Step) (k r : ℕ) (answers answersAfter orders ordersAfter state stateAfter : List ℕ) : Type 0 where
   pub run : Answered s xs k r answers answersAfter orders ordersAfter
-  pub numbers : stateAfter ≡ written k (benchNumbers (benchAfter (freshBench s) xs)) state
+  pub numbers : stateAfter ≡ unlessRefused k (benchNumbers (benchAfter (freshBench s) xs)) state

@@ -4,7 +4,7 @@ ghost use Prim.Native.Nat.{_≤_};
 ghost use lib.ListN.{length};
 ghost use Rattle.runs.specs.Run.{stepsOf, over, runRefusal};
 ghost use Rattle.recording.specs.RunRecorded.{recordRefusal};
-ghost use Rattle.record.specs.Text.{current};
+ghost use Rattle.recorder.specs.Text.{current};
 ghost use Rattle.reader.specs.Read.{readText};
 ghost use Rattle.stretches.specs.declared.Sort.the-variants.{Lowered, Occupied};
 ghost use Rattle.stretches.specs.Walk.{startCursor, nothingFrom, stretchesAhead};
@@ -180,7 +180,7 @@ pub extern "C" fn weqhaso_record(
     let answer = r.answer;
     let recorder = r.recorder;
     let k = runs::number_byte(answer);
-    let line = lines::line_bytes(record::CURRENT);
+    let line = lines::line_bytes(recorder::CURRENT);
     let bytes = if k == 0 { recorder.at + line } else { 0 };
     ((bytes as u64) % 72057594037927936) * 256 + (k as u64)
 }

@@ -8,7 +8,7 @@ use borrow.Author.Tests.{le-leb, lt-leb}
 use Rattle.settings.specs.declared.Verdict.the-variants.{Taken}
 use Rattle.lines.specs.Bytes.{splice}
 use Rattle.lines.proofs.Splices.{splice-then}
-use Rattle.record.specs.Text.{current}
+use Rattle.recorder.specs.Text.{current}
 use Rattle.reader.specs.Read.{readText}
 use Rattle.reader.specs.Round.{runOf}
 use Rattle.stretches.specs.declared.Tally.{Tally}
@@ -18,7 +18,7 @@ use Rattle.stretches.specs.Figures.{total, tallied}
 use Rattle.stretches.proofs.Texts.{text-lowered, text-occupied}
 use Rattle.stretches.proofs.Totals.{ahead-few, ahead-total, below-total}
 use Rattle.report.specs.declared.Reported.{Reported}
-use Rattle.report.specs.Report.{reportLine, runReport, writtenBytes, shortBuffer, Written}
+use Rattle.report.specs.Report.{reportLine, runReport, writtenBytes, shortBuffer, ReportWritten}
 use Rattle.report.specs.Rows.{ns, os, rowsIn, rowLines, Space}
 use Rattle.report.proofs.Rows.{length-row}
 use Rattle.report.proofs.Merge.{rows-bytes}
@@ -26,15 +26,15 @@ use Rattle.report.proofs.Merge.{rows-bytes}
 -- ---- lines that fit, and lines that do not
 
 module _ (lines out : List ℕ) (n : ℕ) (long : length lines ≡ n) where
-  pub written-done : n ≤ length out → (r : Reported) → r ≡ writtenBytes n → (after : List ℕ) → after ≡ splice out 0 lines → Written lines out r after
+  pub written-done : n ≤ length out → (r : Reported) → r ≡ writtenBytes n → (after : List ℕ) → after ≡ splice out 0 lines → ReportWritten lines out r after
   written-done h r p after q = let f = le-leb (0 + length lines) (length out) (omega arith) in record { gives = rw f (p ∙ ap writtenBytes (sym long)); left = rw f q }
 
-  pub written-none : length out < n → (r : Reported) → r ≡ shortBuffer → Written lines out r out
+  pub written-none : length out < n → (r : Reported) → r ≡ shortBuffer → ReportWritten lines out r out
   written-none h r p = let f = lt-leb (0 + length lines) (length out) (omega arith) in record { gives = rw f p; left = rw f }
 
 -- the same lines by another name
-pub written-as : {lines same out after : List ℕ} {r : Reported} → lines ≡ same → Written lines out r after → Written same out r after
-written-as {out = out} {after = after} {r = r} e w = subst (λ (l : List ℕ). Written l out r after) e w
+pub written-as : {lines same out after : List ℕ} {r : Reported} → lines ≡ same → ReportWritten lines out r after → ReportWritten same out r after
+written-as {out = out} {after = after} {r = r} e w = subst (λ (l : List ℕ). ReportWritten l out r after) e w
 
 -- ---- a run's report
 
@@ -76,7 +76,7 @@ module _ (t : List ℕ) (n o : Tally) (p : n ≡ tallied (ns t)) (q : o ≡ tall
 
     -- with the space for its lines, the report is written
     pub run-written : end + 19 ≤ length out → (e after : List ℕ) → e ≡ splice out 0 (rowLines t) →
-        after ≡ splice e end (reportLine (o .stretches) (n .instants) 90) → a ≡ writtenBytes (end + 19) → Written (runReport (runOf current t)) out a after
+        after ≡ splice e end (reportLine (o .stretches) (n .instants) 90) → a ≡ writtenBytes (end + 19) → ReportWritten (runReport (runOf current t)) out a after
     run-written h e after s r k =
         let l = rows-bytes t in
         let m = counted-rows in
@@ -84,5 +84,5 @@ module _ (t : List ℕ) (n o : Tally) (p : n ≡ tallied (ns t)) (q : o ≡ tall
         (r ∙ splice-then out 0 (rowLines t) end s (omega arith) (reportLine (o .stretches) (n .instants) 90) (omega (arith, length-row (o .stretches) (n .instants) 90)) ∙ ap (splice out 0) counted-lines)
 
     -- without it, nothing
-    pub run-none : length out < end + 19 → a ≡ shortBuffer → Written (runReport (runOf current t)) out a out
+    pub run-none : length out < end + 19 → a ≡ shortBuffer → ReportWritten (runReport (runOf current t)) out a out
     run-none h k = written-none (runReport (runOf current t)) out (end + 19) counted-bytes h a k

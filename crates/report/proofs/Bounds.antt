@@ -9,7 +9,7 @@ use lib.ListN.{length}
 use borrow.Author.Tests.{ltb-false}
 use Rattle.settings.specs.declared.Verdict.{Verdict}
 use Rattle.settings.specs.declared.Verdict.the-variants.{Taken, Refused}
-use Rattle.record.specs.Text.{current}
+use Rattle.recorder.specs.Text.{current}
 use Rattle.reader.specs.Read.{readText}
 use Rattle.reader.specs.Round.{runOf}
 use Rattle.stretches.specs.declared.Sort.the-variants.{Lowered, Occupied}

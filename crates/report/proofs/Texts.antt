@@ -12,8 +12,8 @@ use Rattle.lines.specs.Layout.{lineBytes, firstLine, lastLine}
 use Rattle.lines.specs.Bytes.{starts}
 use Rattle.reader.specs.declared.Outcome.{Outcome}
 use Rattle.reader.specs.declared.Progress.{Progress}
-use Rattle.record.specs.Text.{current, firstStep}
-use Rattle.reader.specs.Read.{begun, judged, counted, refusedAt, isNothing, endedBy, scanOf, readFrom, noSettings, readText}
+use Rattle.recorder.specs.Text.{current, firstStep}
+use Rattle.reader.specs.Read.{freshProgress, judged, counted, refusedAt, isNothing, endedBy, scanOf, readFrom, noSettings, readText}
 use Rattle.reader.specs.Round.{runOf}
 use Rattle.report.specs.Report.{refusalReport, reportOf, runReport}
 
@@ -46,9 +46,9 @@ line-few (suc fuel) i n p s =
 
 pub text-line : (t : List ℕ) → readText current t .line ≤ length t + 3
 unfolding readText
-text-line t = go (starts (firstLine current) t) (readFrom current (length t) 2 0 (begun noSettings) (drop (lineBytes current) t)) (line-few (length t) 2 0 (begun noSettings) (drop (lineBytes current) t))
+text-line t = go (starts (firstLine current) t) (readFrom current (length t) 2 0 (freshProgress noSettings) (drop (lineBytes current) t)) (line-few (length t) 2 0 (freshProgress noSettings) (drop (lineBytes current) t))
   where
-    go : (b : Bool) (o : Outcome) → o .line ≤ 2 + length t + 1 → cond b o (refusedAt 15 1 0 (begun noSettings)) .line ≤ length t + 3
+    go : (b : Bool) (o : Outcome) → o .line ≤ 2 + length t + 1 → cond b o (refusedAt 15 1 0 (freshProgress noSettings)) .line ≤ length t + 3
     go true o h = omega arith
     go false o h = omega arith
 

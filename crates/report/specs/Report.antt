@@ -11,12 +11,12 @@ use Rattle.settings.specs.declared.Verdict.the-variants.{Taken, Refused}
 use Rattle.lines.specs.Numeral.{numeral}
 use Rattle.lines.specs.Bytes.{fits, splice}
 use Rattle.runs.specs.declared.Step.{Step}
-use Rattle.record.specs.Text.{current}
+use Rattle.recorder.specs.Text.{current}
 use Rattle.reader.specs.Read.{readText}
 use Rattle.reader.specs.Round.{runOf}
 use Rattle.report.specs.declared.Reported.{Reported}
 use Rattle.stretches.specs.declared.Stretch.{Stretch}
-use Rattle.stretches.specs.Stretches.{lowered, occupied, below}
+use Rattle.stretches.specs.Stretches.{loweredStretches, occupiedStretches, below}
 
 -- ---- lines
 
@@ -45,8 +45,8 @@ merged (suc fuel) (n ∷ ns) (o ∷ os) =
 -- an accepted run's report: its stretches, and Z with the number of O and o lines and of instants below 5,760
 unfoldable pub runReport : List Step → List ℕ
 runReport xs =
-    merged (length (lowered xs) + length (occupied xs)) (lowered xs) (occupied xs)
-    ++ reportLine (length (occupied xs)) (length (below xs)) 90
+    merged (length (loweredStretches xs) + length (occupiedStretches xs)) (loweredStretches xs) (occupiedStretches xs)
+    ++ reportLine (length (occupiedStretches xs)) (length (below xs)) 90
 
 -- a refused text's report: R alone, with the number and the line
 abbrev pub refusalReport : ℕ → ℕ → List ℕ
@@ -71,6 +71,6 @@ abbrev pub shortBuffer : Reported
 shortBuffer = record { verdict = Refused 14; line = 0; bytes = 0 }
 
 -- the lines from the buffer's first byte on and all else as it was; or all as it was
-pub record Written (lines out : List ℕ) (r : Reported) (after : List ℕ) : Type 0 where
+pub record ReportWritten (lines out : List ℕ) (r : Reported) (after : List ℕ) : Type 0 where
   pub gives : r ≡ cond (fits out 0 (length lines)) (writtenBytes (length lines)) shortBuffer
   pub left : after ≡ cond (fits out 0 (length lines)) (splice out 0 lines) out

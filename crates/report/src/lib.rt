@@ -5,11 +5,11 @@ ghost use mathlib.Core.Bool.{cond};
 ghost use lib.ListN.{length};
 ghost use Rattle.settings.specs.declared.Verdict.the-variants.{Taken};
 ghost use Rattle.lines.specs.Bytes.{splice};
-ghost use Rattle.record.specs.Text.{current};
+ghost use Rattle.recorder.specs.Text.{current};
 ghost use Rattle.reader.specs.Read.{readText};
 ghost use Rattle.reader.specs.Round.{runOf};
 ghost use Rattle.report.specs.Report.{reportLine, stretchLine, runReport, refusalReport, reportOf};
-ghost use Rattle.report.specs.Report.{writtenBytes, shortBuffer, Written};
+ghost use Rattle.report.specs.Report.{writtenBytes, shortBuffer, ReportWritten};
 ghost use Rattle.report.specs.Rows.{comesFirst, rowLines, Space};
 use settings::Verdict;
 use stretches::Next;
@@ -35,7 +35,7 @@ fn write_row(out: &mut [u8], at: usize, n: u32, m: u32, letter: u8)
 }
 
 // The capital, or the small letter of a stretch that is still running.
-fn letter_of(capital: u8, running: bool) -> u8
+fn stretch_letter(capital: u8, running: bool) -> u8
     requires { ⌜ capital < 128 ⌝ }
     ensures { λ r. ⌜ r ≡ cond running (capital + 32) capital ⌝ }
 {
@@ -47,7 +47,7 @@ fn write_stretch(out: &mut [u8], at: usize, capital: u8, x: Stretch)
     requires { ⌜ (at + 19 ≤ length (now out)) × (capital < 128) × (x .first < 4294967296) × (x .last < 4294967296) ⌝ }
     ensures { λ _. ⌜ now (out .exit) ≡ splice (now (out .entry)) at (stretchLine capital x) ⌝ }
 {
-    let letter = letter_of(capital, x.running);
+    let letter = stretch_letter(capital, x.running);
     write_row(out, at, x.first as u32, x.last as u32, letter);
 }
 
@@ -90,7 +90,7 @@ fn too_short() -> Reported
     }
 }
 
-fn written(bytes: usize) -> Reported
+fn written_bytes(bytes: usize) -> Reported
     ensures { λ r. ⌜ r ≡ writtenBytes bytes ⌝ }
 {
     Reported {
@@ -103,7 +103,7 @@ fn written(bytes: usize) -> Reported
 // The report of an accepted text.
 fn report_text(text: &[u8], out: &mut [u8]) -> Reported
     requires { ⌜ (length (now text) ≤ 65535) × (readText current (now text) .verdict ≡ Taken) ⌝ }
-    ensures { λ r. ⌜ Written (runReport (runOf current (now (text .entry)))) (now (out .entry)) r (now (out .exit)) ⌝ }
+    ensures { λ r. ⌜ ReportWritten (runReport (runOf current (now (text .entry)))) (now (out .entry)) r (now (out .exit)) ⌝ }
 {
     let n = stretches::tally_lowered(text);
     let o = stretches::tally_occupied(text);
@@ -111,7 +111,7 @@ fn report_text(text: &[u8], out: &mut [u8]) -> Reported
     if end + 19 <= out.len() {
         write_rows(text, out);
         write_row(out, end, o.stretches as u32, n.instants as u32, b'Z');
-        written(end + 19)
+        written_bytes(end + 19)
     } else {
         too_short()
     }
@@ -120,11 +120,11 @@ fn report_text(text: &[u8], out: &mut [u8]) -> Reported
 // The report of a refused text: R alone.
 fn report_refusal(number: u8, line: usize, out: &mut [u8]) -> Reported
     requires { ⌜ line < 4294967296 ⌝ }
-    ensures { λ r. ⌜ Written (refusalReport number line) (now (out .entry)) r (now (out .exit)) ⌝ }
+    ensures { λ r. ⌜ ReportWritten (refusalReport number line) (now (out .entry)) r (now (out .exit)) ⌝ }
 {
     if 19 <= out.len() {
         write_row(out, 0, number as u32, line as u32, b'R');
-        written(19)
+        written_bytes(19)
     } else {
         too_short()
     }
@@ -132,7 +132,7 @@ fn report_refusal(number: u8, line: usize, out: &mut [u8]) -> Reported
 
 // The report of a record text of any bytes, into a lent buffer: as many bytes as its lines have are written, or none where they do not fit.
 pub fn report(text: &[u8], out: &mut [u8]) -> Reported
-    ensures { λ r. ⌜ Written (reportOf (now (text .entry))) (now (out .entry)) r (now (out .exit)) ⌝ }
+    ensures { λ r. ⌜ ReportWritten (reportOf (now (text .entry))) (now (out .entry)) r (now (out .exit)) ⌝ }
 {
     if 65535 < text.len() {
         return report_refusal(14, 0, out);

@@ -40,7 +40,7 @@ use Rattle.bench.specs.Full.{Kept, fullLooked, fullPut, fullEntered, fullSensed
 use Rattle.bench.proofs.Kept.{kept-fresh}
 use Rattle.runs.specs.declared.Step.{Step}
 use Rattle.runs.specs.declared.Step.the-variants.{Approach, Occupy, Leave, Clock}
-use Rattle.runs.specs.History.{History, instant, arm, Place, away, coming, inside, place, isAway, isComing, isInside, since, dueAt, latestAt, someTrain, someDue, someLate, look, command, verdict, keep, after, given, orderBetween, orderAt, history, verdicts, orders}
+use Rattle.runs.specs.History.{History, instant, arm, Place, away, coming, inside, place, isAway, isComing, isInside, since, dueAt, latestAt, someTrain, someDue, someLate, look, command, stepRefusal, keep, after, given, orderBetween, orderAt, history, stepRefusals, orders}
 use Rattle.runs.specs.Steps.{stateAfter, answersTo, benchStepped, benchAfter, benchAnswers}
 use Rattle.runs.specs.Kept.{fullStepped}
 use Rattle.runs.specs.Match.{Valid, shown, Core, Match}
@@ -66,8 +66,8 @@ module _ {told : Bool} {s : Settings} {h : History} {u : Settings} {i : ℕ} {t 
       each true inside a = refl
       each false inside a = refl
 
-  pub approach-number : (n : ℕ) → approachRefusal n (standingOf t n) ≡ verdict s h (Approach n)
-  unfolding approachRefusal verdict
+  pub approach-number : (n : ℕ) → approachRefusal n (standingOf t n) ≡ stepRefusal s h (Approach n)
+  unfolding approachRefusal stepRefusal
   approach-number n = ap (λ (b : Bool). refuse (not (isTrain n)) 5 (refuse b 6 0)) (present-is n)
 
   -- a look over the table, for trains that are not away, is the look of the history
@@ -92,10 +92,10 @@ module _ {told : Bool} {s : Settings} {h : History} {u : Settings} {i : ℕ} {t 
       go false false p q = refl
 
   table-due : (x : ℕ) → table.dueBy t s x ≡ someDue s h x
-  unfolding standing.dueAt dueAt
-  table-due x = table-some (standing.dueAt s x) (λ p a. not (isAway p) && leb (a + s .earliest) x) refl (each told)
+  unfolding standing.isDue dueAt
+  table-due x = table-some (standing.isDue s x) (λ p a. not (isAway p) && leb (a + s .earliest) x) refl (each told)
     where
-      each : (told : Bool) (p : Place) (a : ℕ) → standing.dueAt s x (shown told p a) ≡ (not (isAway p) && leb (a + s .earliest) x)
+      each : (told : Bool) (p : Place) (a : ℕ) → standing.isDue s x (shown told p a) ≡ (not (isAway p) && leb (a + s .earliest) x)
       each told away a = refl
       each told coming a = refl
       each true inside a = refl
@@ -132,12 +132,12 @@ module _ {told : Bool} {s : Settings} {h : History} {u : Settings} {i : ℕ} {t 
       there k (yes d) = rw d (put-same t n st (m .formed) train ∙ e)
       there k (no d) = let o = others k d in put-other t n st k d ∙ m .stands k ∙ sym (ap₂ (shown told) (o .0) (o .1))
 
-  approach-core : (n : ℕ) → verdict s h (Approach n) ≡ 0 → Core told s (Approach n ∷ h) u i (put t n (Coming i))
+  approach-core : (n : ℕ) → stepRefusal s h (Approach n) ≡ 0 → Core told s (Approach n ∷ h) u i (put t n (Coming i))
   approach-core n ok =
       named (Approach n) n (Coming i) (approach-ok s h n ok .0) refl (rw (eq-eqb n n refl) (ap Coming (m .now)))
       (λ k d. let e = ne-eqb n k (λ z. d (sym z)) in (rw e, rw e))
 
-  leave-core : (n : ℕ) → verdict s h (Leave n) ≡ 0 → Core told s (Leave n ∷ h) u i (put t n Away)
+  leave-core : (n : ℕ) → stepRefusal s h (Leave n) ≡ 0 → Core told s (Leave n ∷ h) u i (put t n Away)
   leave-core n ok =
       named (Leave n) n Away (leave-ok s h n ok .0) refl (rw (eq-eqb n n refl))
       (λ k d. let e = ne-eqb n k (λ z. d (sym z)) in (rw e, refl))
@@ -147,7 +147,7 @@ module _ {told : Bool} {s : Settings} {h : History} {u : Settings} {i : ℕ} {t 
 
 module _ {s : Settings} {h : History} {u : Settings} {i : ℕ} {t : Table} where
   -- an occupy that the table is told of: the train's standing is put
-  occupy-core : Core true s h u i t → (n : ℕ) → verdict s h (Occupy n) ≡ 0 → Core true s (Occupy n ∷ h) u i (put t n (Inside (standing.since (standingOf t n))))
+  occupy-core : Core true s h u i t → (n : ℕ) → stepRefusal s h (Occupy n) ≡ 0 → Core true s (Occupy n ∷ h) u i (put t n (Inside (standing.since (standingOf t n))))
   occupy-core m n ok =
       let f = occupy-ok s h n ok in
       let a = ap standing.since (m .stands n ∙ ap (λ (p : Place). shown true p (since n h)) (f .1)) in
@@ -155,7 +155,7 @@ module _ {s : Settings} {h : History} {u : Settings} {i : ℕ} {t : Table} where
       (λ k d. let e = ne-eqb n k (λ z. d (sym z)) in (rw e, refl))
 
   -- and one that it is not told of: all is as it was
-  pub untold-core : Core false s h u i t → (n : ℕ) → verdict s h (Occupy n) ≡ 0 → Core false s (Occupy n ∷ h) u i t
+  pub untold-core : Core false s h u i t → (n : ℕ) → stepRefusal s h (Occupy n) ≡ 0 → Core false s (Occupy n ∷ h) u i t
   untold-core m n ok = record { settings = m .settings; now = m .now; formed = m .formed; stands = λ k. m .stands k ∙ there k (eqb n k) refl }
     where
       there : (k : ℕ) (b : Bool) → eqb n k ≡ b → shown false (place k h) (since k h) ≡ shown false (cond b inside (place k h)) (since k h)
@@ -190,11 +190,11 @@ heeds {s = s} {h = h} x t w core same looks =
     }
 
 module _ {told : Bool} {s : Settings} {h : History} {u : Settings} {t : Table} {w : Control} (m : Core told s h u (w .now) t) (same : w .command ≡ command s h) where
-  pub approach-heeds : (n : ℕ) → verdict s h (Approach n) ≡ 0 → Heeds told s h (Approach n) u (put t n (Coming (w .now))) (fullLookedAt u (put t n (Coming (w .now))) w)
+  pub approach-heeds : (n : ℕ) → stepRefusal s h (Approach n) ≡ 0 → Heeds told s h (Approach n) u (put t n (Coming (w .now))) (fullLookedAt u (put t n (Coming (w .now))) w)
   unfolding command
   approach-heeds n ok = heeds (Approach n) (put t n (Coming (w .now))) w (approach-core m n ok) same refl
 
-  pub leave-heeds : (n : ℕ) → verdict s h (Leave n) ≡ 0 → Heeds told s h (Leave n) u (put t n Away) (fullLookedAt u (put t n Away) w)
+  pub leave-heeds : (n : ℕ) → stepRefusal s h (Leave n) ≡ 0 → Heeds told s h (Leave n) u (put t n Away) (fullLookedAt u (put t n Away) w)
   unfolding command
   leave-heeds n ok = heeds (Leave n) (put t n Away) w (leave-core m n ok) same refl
 
@@ -227,8 +227,8 @@ module _ (s : Settings) (h : History) (b : Bench) (m : Match s h b) where
   with-arm x t w p arms = record { answer = p .answer; core = p .core; command = p .command; angle = arms }
 
   -- a step of the full look with its refusal number
-  by-number : (x : Step) (j : ℕ) (gives : Moved) → j ≡ verdict s h x → (verdict s h x ≡ 0 → Takes s h x gives) → Kept (unless j (refused b) gives .bench) →
-      Stands s h x (verdict s h x) (unless j (refused b) gives)
+  by-number : (x : Step) (j : ℕ) (gives : Moved) → j ≡ stepRefusal s h x → (stepRefusal s h x ≡ 0 → Takes s h x gives) → Kept (unless j (refused b) gives .bench) →
+      Stands s h x (stepRefusal s h x) (unless j (refused b) gives)
   by-number x j gives e takes k = rw (← e) (go j (λ z. takes (sym e ∙ z)) k)
     where
       go : (j : ℕ) → (j ≡ 0 → Takes s h x gives) → Kept (unless j (refused b) gives .bench) → Stands s h x j (unless j (refused b) gives)
@@ -245,8 +245,8 @@ module _ (s : Settings) (h : History) (b : Bench) (m : Match s h b) where
       each coming a = refl
       each inside a = refl
 
-  occupy-number : (n : ℕ) → occupyRefusal (b .head .settings) (nowOf b) n (standsAt b n) ≡ verdict s h (Occupy n)
-  unfolding occupyRefusal verdict dueAt
+  occupy-number : (n : ℕ) → occupyRefusal (b .head .settings) (nowOf b) n (standsAt b n) ≡ stepRefusal s h (Occupy n)
+  unfolding occupyRefusal stepRefusal dueAt
   occupy-number n = ap (refuse (not (isTrain n)) 5) (rw (m .core .now, m .core .settings) (by-standing (m .core) now-coming (λ p a. refuse (not (isComing p)) 7 (refuse (ltb (instant h) (a + s .earliest)) 8 0)) each n))
     where
       now-coming : Standing → ℕ
@@ -257,26 +257,26 @@ module _ (s : Settings) (h : History) (b : Bench) (m : Match s h b) where
       each coming a = refl
       each inside a = refl
 
-  leave-number : (n : ℕ) → benchLeaveRefusal n (standsAt b n) ≡ verdict s h (Leave n)
-  unfolding benchLeaveRefusal verdict
+  leave-number : (n : ℕ) → benchLeaveRefusal n (standsAt b n) ≡ stepRefusal s h (Leave n)
+  unfolding benchLeaveRefusal stepRefusal
   leave-number n = ap (λ (t : Bool). refuse (not (isTrain n)) 5 (refuse (not t) 9 0)) (inside-is n)
 
   table-late : table.someLate (b .table) s (instant h) ≡ someLate s h
-  unfolding standing.latestAt latestAt
-  table-late = table-some (m .core) (standing.latestAt s (instant h)) (λ p a. isComing p && leb (a + s .latest) (instant h)) refl each
+  unfolding standing.isLate latestAt
+  table-late = table-some (m .core) (standing.isLate s (instant h)) (λ p a. isComing p && leb (a + s .latest) (instant h)) refl each
     where
-      each : (p : Place) (a : ℕ) → standing.latestAt s (instant h) (shown true p a) ≡ (isComing p && leb (a + s .latest) (instant h))
+      each : (p : Place) (a : ℕ) → standing.isLate s (instant h) (shown true p a) ≡ (isComing p && leb (a + s .latest) (instant h))
       each away a = refl
       each coming a = refl
       each inside a = refl
 
-  clock-number : Valid s h → (r : Float) → fullClockRefusal b (readingOf r) ≡ verdict s h (Clock r)
-  unfolding fullClockRefusal verdict
+  clock-number : Valid s h → (r : Float) → fullClockRefusal b (readingOf r) ≡ stepRefusal s h (Clock r)
+  unfolding fullClockRefusal stepRefusal
   clock-number v r = rw (m .core .now, m .core .settings, m .command, m .angle, at-end s h v, table-late)
 
   -- ---- each step
 
-  full-stands : Valid s h → (x : Step) → Kept (fullStepped b x .bench) → Stands s h x (verdict s h x) (fullStepped b x)
+  full-stands : Valid s h → (x : Step) → Kept (fullStepped b x .bench) → Stands s h x (stepRefusal s h x) (fullStepped b x)
   unfolding fullSensed fullClocked command
   full-stands v (Approach n) k =
       by-number (Approach n) (approachRefusal n (standsAt b n)) (fullPut b n (Coming (nowOf b))) (approach-number (m .core) n)
@@ -293,7 +293,7 @@ module _ (s : Settings) (h : History) (b : Bench) (m : Match s h b) where
       (λ ok. with-arm (Clock r) (b .table) next (clock-heeds (m .core) (m .command) r) refl) k
 
   -- the step as built is that of the full look
-  pub step-stands : Valid s h → (x : Step) → Stands s h x (verdict s h x) (benchStepped b x)
+  pub step-stands : Valid s h → (x : Step) → Stands s h x (stepRefusal s h x) (benchStepped b x)
   step-stands v x = rw (step-full b (m .kept) x) (full-stands v x (step-kept b (m .kept) x))
 
 -- ---- lists
@@ -319,16 +319,16 @@ module _ (s : Settings) where
   run-match (x ∷ xs) h b v m = run-match xs (after s h x) (benchStepped b x .bench) (valid-after s h x v) (step-stands s h b m v x .match)
 
   -- and has answered as they say: each step's refusal number, and the command given
-  pub run-numbers : (xs : List Step) (h : History) (b : Bench) → Valid s h → Match s h b → map numberOf (benchAnswers b xs) ≡ verdicts s h xs
-  unfolding verdicts answersTo
+  pub run-numbers : (xs : List Step) (h : History) (b : Bench) → Valid s h → Match s h b → map numberOf (benchAnswers b xs) ≡ stepRefusals s h xs
+  unfolding stepRefusals answersTo
   run-numbers [] h b v m = refl
   run-numbers (x ∷ xs) h b v m =
       let p = step-stands s h b m v x in
-      ap₂ (λ (k : ℕ) (l : List ℕ). k ∷ l) (ap numberOf (p .answer) ∙ number-answer (verdict s h x) (orderAt s h x))
+      ap₂ (λ (k : ℕ) (l : List ℕ). k ∷ l) (ap numberOf (p .answer) ∙ number-answer (stepRefusal s h x) (orderAt s h x))
       (run-numbers xs (after s h x) (benchStepped b x .bench) (valid-after s h x v) (p .match))
 
-  order-answer : (h : History) (x : Step) → orderOf (answerOf (verdict s h x) (orderAt s h x)) ≡ orderAt s h x
-  order-answer h x = go (verdict s h x)
+  order-answer : (h : History) (x : Step) → orderOf (answerOf (stepRefusal s h x) (orderAt s h x)) ≡ orderAt s h x
+  order-answer h x = go (stepRefusal s h x)
     where
       go : (k : ℕ) → orderOf (answerOf k (orderBetween s h (keep k x h))) ≡ orderBetween s h (keep k x h)
       go zero = refl

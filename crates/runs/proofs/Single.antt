@@ -15,7 +15,7 @@ use Rattle.arm.specs.declared.Command.{Command}
 use Rattle.arm.specs.declared.Command.the-variants.{Up, Down}
 use Rattle.runs.specs.declared.Step.{Step}
 use Rattle.runs.specs.declared.Step.the-variants.{Approach, Occupy, Leave, Clock}
-use Rattle.runs.specs.History.{History, instant, arm, away, coming, inside, place, isAway, isComing, dueAt, latestAt, someDue, someLate, lowering, raising, look, command, verdict, keep, after, history, moment}
+use Rattle.runs.specs.History.{History, instant, arm, away, coming, inside, place, isAway, isComing, dueAt, latestAt, someDue, someLate, lowering, raising, look, command, stepRefusal, keep, after, history, moment}
 use Rattle.runs.specs.Demand.{Occupied}
 use Rattle.runs.specs.Match.{Valid}
 use Rattle.runs.proofs.Rules.{some-true, some-false, approach-ok, occupy-ok, leave-ok, clock-ok}
@@ -33,16 +33,16 @@ course s xs i = seen s (moment s xs i)
 -- from one moment to the next a step was refused, and nothing has changed, or it was accepted
 data Next (s : Settings) (h : History) : History → Type 0 where
   refused : Next s h h
-  accepted : (x : Step) → verdict s h x ≡ 0 → Next s h (x ∷ h)
+  accepted : (x : Step) → stepRefusal s h x ≡ 0 → Next s h (x ∷ h)
 
 -- moment i + 1 is such a next one
 next : (s : Settings) (xs : List Step) (h : History) (i : ℕ) → Next s (history s h (take i xs)) (history s h (take (suc i) xs))
 unfolding history
 next s [] h zero = refused
 next s [] h (suc i) = refused
-next s (x ∷ xs) h zero = go (verdict s h x) refl
+next s (x ∷ xs) h zero = go (stepRefusal s h x) refl
   where
-    go : (k : ℕ) → verdict s h x ≡ k → Next s h (keep k x h)
+    go : (k : ℕ) → stepRefusal s h x ≡ k → Next s h (keep k x h)
     go zero e = accepted x e
     go (suc k) e = refused
 next s (x ∷ xs) h (suc i) = next s xs (after s h x) i
@@ -129,7 +129,7 @@ module _ (s : Settings) where
       go false e = let f = none-due h (raising s h) e in (f, λ d. f (sooner s (seen s h) d))
 
   -- an occupy is not heard, and the same trains are present and due as before
-  unheard : (h : History) (m : ℕ) → verdict s h (Occupy m) ≡ 0 → (k : Command) → Settled k h → Settled k (Occupy m ∷ h)
+  unheard : (h : History) (m : ℕ) → stepRefusal s h (Occupy m) ≡ 0 → (k : Command) → Settled k h → Settled k (Occupy m ∷ h)
   unfolding dueAt
   unheard h m ok = go
     where

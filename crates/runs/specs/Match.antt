@@ -12,12 +12,12 @@ use Rattle.trains.specs.Table.{standingOf, WellFormed}
 use Rattle.bench.specs.declared.Bench.{Bench}
 use Rattle.bench.specs.Bench.{nowOf, commandOf, armOf}
 use Rattle.bench.specs.Full.{Kept}
-use Rattle.runs.specs.History.{History, instant, arm, Place, away, coming, inside, place, since, command, verdict}
+use Rattle.runs.specs.History.{History, instant, arm, Place, away, coming, inside, place, since, command, stepRefusal}
 
 -- every step of the history was accepted after those before it
 abbrev pub Valid : Settings → History → Type 0
 Valid s [] = Unit {0}
-Valid s (x ∷ h) = Valid s h × (verdict s h x ≡ 0)
+Valid s (x ∷ h) = Valid s h × (stepRefusal s h x ≡ 0)
 
 -- a train's standing, from where it is and its last approach; a table that is not told of occupies has the train inside as coming
 abbrev pub shown : Bool → Place → ℕ → Standing

@@ -1,6 +1,6 @@
 // The sample record of document 01, written by the recorder, printed and read back, and texts damaged from it with the reader's verdicts.
 use libc::STDOUT_FILENO;
-use record::Recorded;
+use recorder::Recorded;
 use runs::Step;
 use settings::Verdict;
 
@@ -12,7 +12,7 @@ fn after(r: Recorded, x: Step, out: &mut [u8]) -> Recorded {
 
 // The sample up to its command down.
 fn lowered(out: &mut [u8]) -> Recorded {
-    let r0 = record::start(worked::settings_k(), out);
+    let r0 = recorder::start(worked::settings_k(), out);
     let r1 = after(r0, Step::Approach(1), out);
     after(r1, Step::Clock(90.0), out)
 }

@@ -19,7 +19,7 @@ use Rattle.trains.specs.declared.First.{First}
 use Rattle.trains.specs.declared.First.the-variants.{Nobody, Train}
 use Rattle.trains.specs.declared.Question.{Question}
 use Rattle.trains.specs.declared.Question.the-variants.{Due, Latest}
-use Rattle.trains.specs.Trains.{isTrain, isPresent, dueAt, latestAt}
+use Rattle.trains.specs.Trains.{isTrain, isPresent, isDue, isLate}
 use Rattle.trains.specs.Table.{entryWith, freshTable, standingOf, put, someOf, someStanding, dueBy, someLate, WellFormed}
 use Rattle.trains.specs.First.{before, ownOf, hasOwn, earlierOf, reachedBy, isNamed, withOther, firstFrom, firstIn, firstBut, restOf}
 use Rattle.trains.proofs.Laws.{train-says, says-train, put-formed, put-same, put-other}
@@ -265,19 +265,19 @@ look-from own test l same k (e ∷ es) =
 
 module _ (s : Settings) (table : Table) where
   pub due-first : (t : ℕ) → reachedBy t (firstIn s Due table) ≡ dueBy table s t
-  unfolding firstIn someStanding ownOf reachedBy dueAt
-  due-first t = look-from (ownOf s Due) (dueAt s t) t same 0 (table .places)
+  unfolding firstIn someStanding ownOf reachedBy isDue
+  due-first t = look-from (ownOf s Due) (isDue s t) t same 0 (table .places)
     where
-      same : (n : ℕ) (standing : Standing) → reachedBy t (ownOf s Due n standing) ≡ dueAt s t standing
+      same : (n : ℕ) (standing : Standing) → reachedBy t (ownOf s Due n standing) ≡ isDue s t standing
       same n Away = refl
       same n (Coming a) = refl
       same n (Inside a) = refl
 
   pub late-first : (now : ℕ) → reachedBy now (firstIn s Latest table) ≡ someLate table s now
-  unfolding firstIn someStanding ownOf reachedBy latestAt
-  late-first now = look-from (ownOf s Latest) (latestAt s now) now same 0 (table .places)
+  unfolding firstIn someStanding ownOf reachedBy isLate
+  late-first now = look-from (ownOf s Latest) (isLate s now) now same 0 (table .places)
     where
-      same : (n : ℕ) (standing : Standing) → reachedBy now (ownOf s Latest n standing) ≡ latestAt s now standing
+      same : (n : ℕ) (standing : Standing) → reachedBy now (ownOf s Latest n standing) ≡ isLate s now standing
       same n Away = refl
       same n (Coming a) = refl
       same n (Inside a) = refl

@@ -55,11 +55,11 @@ cast-write-row-2 c =
 write-row-requires : tie.Need-write-row-requires
 write-row-requires c κs = search needs
 
-add-written : tie.Need-add-written
-add-written c = search needs
+add-written-bytes : tie.Need-add-written-bytes
+add-written-bytes c = search needs
 
-written-requires : tie.Need-written-requires
-written-requires c κs = search needs
+written-bytes-requires : tie.Need-written-bytes-requires
+written-bytes-requires c κs = search needs
 
 too-short-requires : tie.Need-too-short-requires
 too-short-requires c κs = search needs
@@ -73,7 +73,7 @@ returns c =
     let counted = rows .before .before .before .before .before in
     let start = counted .before .before .before .before in
     run-written _ _ _ (counted .before .tally-lowered .ensures) (counted .tally-occupied .ensures) (start .pre .1) _ _
-    (rows .before .before .if1 .taken) _ _ (rows .write-rows .ensures) (c .before .before .before .write-row .ensures) (c .written .ensures)
+    (rows .before .before .if1 .taken) _ _ (rows .write-rows .ensures) (c .before .before .before .write-row .ensures) (c .written-bytes .ensures)
 
 returns-2 : tie.Need-returns-2
 returns-2 c =
@@ -94,8 +94,8 @@ report-text-spec =
     cast-write-row
     cast-write-row-2
     write-row-requires
-    add-written
-    written-requires
+    add-written-bytes
+    written-bytes-requires
     too-short-requires
     same-length
     returns

@@ -6,7 +6,7 @@ use Rattle.settings.specs.Settings.{ticksFor, inRange, settingsRefusal}
 use Rattle.arm.specs.Shown.{readingOf}
 use Rattle.arm.specs.Movement.{mayMove}
 use Rattle.trains.specs.Trains.{isTrain}
-use Rattle.runs.specs.History.{dueAt, latestAt, someTrain, command, verdict, verdicts, orders}
+use Rattle.runs.specs.History.{dueAt, latestAt, someTrain, command, stepRefusal, stepRefusals, orders}
 use Rattle.runs.specs.Letters.{letterOf}
 use Rattle.runs.specs.Run.{allSteps, stepsOf, runRefusal}
 use borrow.Author.Needs.{needs}
@@ -18,7 +18,7 @@ unfolding ticksFor inRange settingsRefusal settings.verdict
 check-settings-requires c κs = (record { whole = refl }, record { whole = refl })
 
 check-lists-requires : tie.Need-check-lists-requires
-unfolding runRefusal settingsRefusal inRange ticksFor allSteps letterOf stepsOf verdicts orders verdict command someTrain dueAt latestAt isTrain readingOf mayMove ofBits
+unfolding runRefusal settingsRefusal inRange ticksFor allSteps letterOf stepsOf stepRefusals orders stepRefusal command someTrain dueAt latestAt isTrain readingOf mayMove ofBits
 check-lists-requires c κs = record { whole = refl }
 
 returns : tie.Need-returns
