@@ -23,7 +23,7 @@ use Rattle.recording.specs.RunRecorded.{runGives, runLeaves, RunRecorded}
 use Rattle.recorder.proofs.Recording.{keeps-always, ends-always}
 use Rattle.lines.specs.Bytes.{fits}
 use Rattle.report.specs.declared.Reported.{Reported}
-use Rattle.report.specs.Report.{writtenBytes, shortBuffer, Written}
+use Rattle.report.specs.Report.{writtenBytes, shortBuffer, ReportWritten}
 use Rattle.exports.specs.Exports.{Answered, pack, bytesOf, RecordAnswered, Reports}
 
 number-finished : (k : ℕ) (s : Settings) (xs : List Step) → numberOf (finishedBy k s xs .verdict) ≡ k
@@ -94,7 +94,7 @@ module _ (s : Settings) (xs : List Step) (k : ℕ) (r : Recorded) (answers answe
       count (inr x) = count-recorded s xs d k bytes (λ z. absurd (x .0 (number-is ∙ z))) (λ f. x .1)
 
 -- a report that was answered by its bytes and its number
-pub report-answered : (lines out : List ℕ) (g : Reported) (after : List ℕ) (n : ℕ) → Written lines out g after → n ≡ numberOf (g .verdict) → Reports lines out (pack (g .bytes) n) after
+pub report-answered : (lines out : List ℕ) (g : Reported) (after : List ℕ) (n : ℕ) → ReportWritten lines out g after → n ≡ numberOf (g .verdict) → Reports lines out (pack (g .bytes) n) after
 report-answered lines out g after n w e = record { number = rw e (ap (λ (x : Reported). pack (x .bytes) (numberOf (x .verdict))) (w .gives) ∙ go (fits out 0 (length lines))); bytes = w .left }
   where
     go : (b : Bool) → pack (cond b (writtenBytes (length lines)) shortBuffer .bytes) (numberOf (cond b (writtenBytes (length lines)) shortBuffer .verdict)) ≡ cond b (pack (length lines) 0) 14

@@ -10,7 +10,7 @@ use lib.Seq.{take-append-le, take-length}
 use Rattle.io.specs.Counts.{Counts}
 use Rattle.lines.specs.Bytes.{fits, splice}
 use Rattle.report.specs.declared.Reported.{Reported}
-use Rattle.report.specs.Report.{Written}
+use Rattle.report.specs.Report.{ReportWritten}
 use Rattle.gate.specs.Held.{Held}
 
 -- a number that is at most a list's length
@@ -18,7 +18,7 @@ pub counted : (n : ℕ) (xs : List ℕ) → n ≤ length xs → Counts n xs
 counted n xs h = (h, simp length-take (omega arith))
 
 -- a report that fits is at its buffer's start
-pub report-held : {lines out : List ℕ} {r : Reported} {after : List ℕ} → length lines ≤ length out → Written lines out r after → Held (r .bytes) lines after
+pub report-held : {lines out : List ℕ} {r : Reported} {after : List ℕ} → length lines ≤ length out → ReportWritten lines out r after → Held (r .bytes) lines after
 report-held {lines} {out} {r} {after} h w =
     let f : fits out 0 (length lines) ≡ true = le-leb (0 + length lines) (length out) (omega arith) in
     let given : r .bytes ≡ length lines = ap (λ (x : Reported). x .bytes) (rw f at (w .gives)) in

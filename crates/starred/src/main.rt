@@ -1,5 +1,5 @@
-// The starred bench cases of document 01 through the built functions, as three tables. Each check is proved: by the contracts of what it calls, and by what
-// the rules give for the whole table.
+// The starred bench cases of document 01 through the built functions, as three tables. Each check is proved: by the contracts of what it
+// calls, and by what the rules give for the whole table.
 ghost use mathlib.Core.Path.{_≡_};
 ghost use Rattle.starred.specs.Tables.{FallsRight, ChangesRight, ruled, expected, ListsRight};
 
@@ -25,8 +25,8 @@ const CHANGES: [Change; 5] = [
     Change(3, 5760, 3, 0, 1),
 ];
 
-// e to j: a list of so many steps under K, the refusal number of each, 0 where it is taken, and the letter of its command, 0 where it gives none.
-// The places past its steps are blank or 0.
+// e to j: a list of so many steps under K, the refusal number of each, 0 where it is taken, and the letter of its command, 0 where it gives
+// none. The places past its steps are blank or 0.
 struct Listed {
     steps: usize,
     letters: [u8; 9],
