@@ -10,6 +10,7 @@ pub mod Commands
 pub mod Rising
 pub mod Counts
 pub mod Claims
+pub mod Looks
 pub mod Letters
 pub mod Slices
 pub mod Through

@@ -2,6 +2,7 @@ pub mod History
 pub mod Steps
 pub mod Demand
 pub mod Claims
+pub mod Looks
 pub mod Kept
 pub mod Match
 pub mod Letters
