@@ -6,6 +6,7 @@ pub mod Single
 pub mod Kept
 pub mod Agreement
 pub mod Demand
+pub mod ShortGap
 pub mod Commands
 pub mod Rising
 pub mod Counts

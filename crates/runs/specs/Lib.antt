@@ -1,6 +1,7 @@
 pub mod History
 pub mod Steps
 pub mod Demand
+pub mod ShortGap
 pub mod Claims
 pub mod Looks
 pub mod Kept
