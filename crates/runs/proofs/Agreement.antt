@@ -1,4 +1,4 @@
--- The bench as built, run through a list, is as the rules say: it has their instant, arm, trains and command, and gives their answers.
+-- The bench as built, run through a list, is as the rules say: it has their instant, arm, trains' standings and command, and gives their answers.
 -- Proved of the full look, step by step, and carried to the bench as built by the equation of the two (Kept).
 -- What is said of a table and a look holds for a cabinet alone too, which is not told of occupies. Assumes nothing.
 use Prim.Native.Nat.{ℕ, zero, suc, _+_}
@@ -40,11 +40,11 @@ use Rattle.bench.specs.Full.{Kept, fullLooked, fullPut, fullEntered, fullSensed
 use Rattle.bench.proofs.Kept.{kept-fresh}
 use Rattle.runs.specs.declared.Step.{Step}
 use Rattle.runs.specs.declared.Step.the-variants.{Approach, Occupy, Leave, Clock}
-use Rattle.runs.specs.History.{History, instant, arm, Place, away, coming, inside, place, isAway, isComing, isInside, since, dueAt, latestAt, someTrain, someDue, someLate, look, command, stepRefusal, keep, after, given, orderBetween, orderAt, history, stepRefusals, orders}
+use Rattle.runs.specs.History.{History, instant, arm, armBefore, Place, away, coming, inside, place, isAway, isComing, isInside, since, dueAt, latestAt, someTrain, someDue, someLate, look, command, stepRefusal, keep, after, given, orderBetween, orderAt, history, stepRefusals, orders}
 use Rattle.runs.specs.Steps.{stateAfter, answersTo, benchStepped, benchAfter, benchAnswers}
 use Rattle.runs.specs.Kept.{fullStepped}
 use Rattle.runs.specs.Match.{Valid, shown, Core, Match}
-use Rattle.runs.specs.Demand.{answerOf, Agrees}
+use Rattle.runs.specs.Demand.{answerOf, standingFrom, Agrees}
 use Rattle.runs.proofs.Rules.{some-true, some-present, approach-ok, occupy-ok, leave-ok}
 use Rattle.runs.proofs.Invariants.{valid-after, valid, clock-range}
 use Rattle.runs.proofs.Kept.{step-full, step-kept}
@@ -215,6 +215,7 @@ record Takes (s : Settings) (h : History) (x : Step) (m : Moved) : Type 0 where
   pub core : Core true s (x ∷ h) (m .bench .head .settings) (nowOf (m .bench)) (m .bench .table)
   pub command : commandOf (m .bench) ≡ command s (x ∷ h)
   pub angle : armOf (m .bench) ≡ arm (x ∷ h)
+  pub previous : m .bench .head .motion .previous ≡ armBefore (x ∷ h)
 
 unmoved : (k : Command) → given k k ≡ Nothing
 unmoved Up = refl
@@ -223,8 +224,8 @@ unmoved Down = refl
 module _ (s : Settings) (h : History) (b : Bench) (m : Match s h b) where
   -- an accepted step that the cabinet hears, with the arm
   with-arm : (x : Step) (t : Table) (w : Motion) → Heeds true s h x (b .head .settings) t (fullLookedAt (b .head .settings) t (w .control)) → w .angle ≡ arm (x ∷ h) →
-      Takes s h x (fullLooked (b .head .settings) t w)
-  with-arm x t w p arms = record { answer = p .answer; core = p .core; command = p .command; angle = arms }
+      w .previous ≡ armBefore (x ∷ h) → Takes s h x (fullLooked (b .head .settings) t w)
+  with-arm x t w p now before = record { answer = p .answer; core = p .core; command = p .command; angle = now; previous = before }
 
   -- a step of the full look with its refusal number
   by-number : (x : Step) (j : ℕ) (gives : Moved) → j ≡ stepRefusal s h x → (stepRefusal s h x ≡ 0 → Takes s h x gives) → Kept (unless j (refused b) gives .bench) →
@@ -232,7 +233,7 @@ module _ (s : Settings) (h : History) (b : Bench) (m : Match s h b) where
   by-number x j gives e takes k = rw (← e) (go j (λ z. takes (sym e ∙ z)) k)
     where
       go : (j : ℕ) → (j ≡ 0 → Takes s h x gives) → Kept (unless j (refused b) gives .bench) → Stands s h x j (unless j (refused b) gives)
-      go zero takes k = let p = takes refl in record { answer = p .answer; match = record { core = p .core; command = p .command; angle = p .angle; kept = k } }
+      go zero takes k = let p = takes refl in record { answer = p .answer; match = record { core = p .core; command = p .command; angle = p .angle; previous = p .previous; kept = k } }
       go (suc j) takes k = record { answer = refl; match = m }
 
   -- ---- the refusal numbers are the rules'
@@ -241,6 +242,15 @@ module _ (s : Settings) (h : History) (b : Bench) (m : Match s h b) where
   inside-is = by-standing (m .core) standing.isInside (λ p a. isInside p) each
     where
       each : (p : Place) (a : ℕ) → standing.isInside (shown true p a) ≡ isInside p
+      each away a = refl
+      each coming a = refl
+      each inside a = refl
+
+  -- the table is told of occupies
+  standing-is : (n : ℕ) → standsAt b n ≡ standingFrom (place n h) (since n h)
+  standing-is = by-standing (m .core) (λ t. t) standingFrom each
+    where
+      each : (p : Place) (a : ℕ) → shown true p a ≡ standingFrom p a
       each away a = refl
       each coming a = refl
       each inside a = refl
@@ -280,17 +290,17 @@ module _ (s : Settings) (h : History) (b : Bench) (m : Match s h b) where
   unfolding fullSensed fullClocked command
   full-stands v (Approach n) k =
       by-number (Approach n) (approachRefusal n (standsAt b n)) (fullPut b n (Coming (nowOf b))) (approach-number (m .core) n)
-      (λ ok. with-arm (Approach n) (put (b .table) n (Coming (nowOf b))) (b .head .motion) (approach-heeds (m .core) (m .command) n ok) (m .angle)) k
+      (λ ok. with-arm (Approach n) (put (b .table) n (Coming (nowOf b))) (b .head .motion) (approach-heeds (m .core) (m .command) n ok) (m .angle) (m .previous)) k
   full-stands v (Occupy n) k =
       by-number (Occupy n) (occupyRefusal (b .head .settings) (nowOf b) n (standsAt b n)) (fullEntered b n) (occupy-number n)
-      (λ ok. record { answer = ap Taken (sym (unmoved (command s h))); core = occupy-core (m .core) n ok; command = m .command; angle = m .angle }) k
+      (λ ok. record { answer = ap Taken (sym (unmoved (command s h))); core = occupy-core (m .core) n ok; command = m .command; angle = m .angle; previous = m .previous }) k
   full-stands v (Leave n) k =
       by-number (Leave n) (benchLeaveRefusal n (standsAt b n)) (fullPut b n Away) (leave-number n)
-      (λ ok. with-arm (Leave n) (put (b .table) n Away) (b .head .motion) (leave-heeds (m .core) (m .command) n ok) (m .angle)) k
+      (λ ok. with-arm (Leave n) (put (b .table) n Away) (b .head .motion) (leave-heeds (m .core) (m .command) n ok) (m .angle) (m .previous)) k
   full-stands v (Clock r) k =
       let next : Motion = record { control = later (b .head .motion .control); angle = angleOf (readingOf r); previous = armOf b } in
       by-number (Clock r) (fullClockRefusal b (readingOf r)) (fullLooked (b .head .settings) (b .table) next) (clock-number v r)
-      (λ ok. with-arm (Clock r) (b .table) next (clock-heeds (m .core) (m .command) r) refl) k
+      (λ ok. with-arm (Clock r) (b .table) next (clock-heeds (m .core) (m .command) r) refl (m .angle)) k
 
   -- the step as built is that of the full look
   pub step-stands : Valid s h → (x : Step) → Stands s h x (stepRefusal s h x) (benchStepped b x)
@@ -304,7 +314,7 @@ fresh-core told s = record { settings = refl; now = refl; formed = fresh-formed;
 
 pub fresh-match : (s : Settings) → Match s [] (freshBench s)
 unfolding freshBench freshHead command
-fresh-match s = record { core = fresh-core true s; command = refl; angle = refl; kept = kept-fresh s }
+fresh-match s = record { core = fresh-core true s; command = refl; angle = refl; previous = refl; kept = kept-fresh s }
 
 -- the number of an answer is the number that it was made from
 pub number-answer : (k : ℕ) (o : Order) → numberOf (answerOf k o) ≡ k
@@ -351,5 +361,7 @@ module _ (s : Settings) where
         angle = m .angle;
         order = m .command;
         trains = inside-is s (history s [] xs) (benchAfter (freshBench s) xs) m;
+        standings = standing-is s (history s [] xs) (benchAfter (freshBench s) xs) m;
+        previous = m .previous;
         answers = λ x. step-stands s (history s [] xs) (benchAfter (freshBench s) xs) m v x .answer;
       }

@@ -6,10 +6,12 @@ pub mod Single
 pub mod Kept
 pub mod Agreement
 pub mod Demand
+pub mod ShortGap
 pub mod Commands
 pub mod Rising
 pub mod Counts
 pub mod Claims
+pub mod Looks
 pub mod Letters
 pub mod Slices
 pub mod Through

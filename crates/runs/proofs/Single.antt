@@ -55,13 +55,13 @@ second false b e p = absurd (false≢true p)
 module _ (s : Settings) where
   -- ---- what the looks say
 
-  some-due : (h : History) (t : ℕ) → someDue s h t ≡ true → DueBy (seen s h) t
+  pub some-due : (h : History) (t : ℕ) → someDue s h t ≡ true → DueBy (seen s h) t
   some-due h t e =
       let r = some-true (λ n. not (isAway (place n h)) && leb (dueAt s h n) t) h e in
       let p = both (not (isAway (place (r .0) h))) (leb (dueAt s h (r .0)) t) (r .1) in
       (r .0, not-true _ (p .0), leb-true _ _ (p .1))
 
-  none-due : (h : History) (t : ℕ) → someDue s h t ≡ false → DueBy (seen s h) t → ⊥
+  pub none-due : (h : History) (t : ℕ) → someDue s h t ≡ false → DueBy (seen s h) t → ⊥
   none-due h t e (n, a, d) =
       let r = some-false (λ n. not (isAway (place n h)) && leb (dueAt s h n) t) h e n a in
       let z : t < dueAt s h n = leb-false _ _ (second (not (isAway (place n h))) (leb (dueAt s h n) t) r (ap not a)) in
@@ -106,7 +106,7 @@ module _ (s : Settings) where
   -- ---- the command
 
   -- what holds at every moment (`settled`): command up, no present train is due within D; command down, one is due within U + W + D
-  abbrev Settled : Command → History → Type 0
+  abbrev pub Settled : Command → History → Type 0
   Settled Up h = DueBy (seen s h) (lowering s h) → ⊥
   Settled Down h = DueBy (seen s h) (raising s h)
 
@@ -141,7 +141,7 @@ module _ (s : Settings) where
       go Up f = λ d. f (d .0, sym (present (d .0) (eqb m (d .0)) refl) ∙ d .1, d .2)
       go Down (n, a, d) = (n, present n (eqb m n) refl ∙ a, d)
 
-  settled : (h : History) → Valid s h → Settled (command s h) h
+  pub settled : (h : History) → Valid s h → Settled (command s h) h
   unfolding command
   settled [] v = λ d. present-away (d .1) refl
   settled (Approach m ∷ h) v = by-look (Approach m ∷ h) (command s h) .1

@@ -1,7 +1,9 @@
 pub mod History
 pub mod Steps
 pub mod Demand
+pub mod ShortGap
 pub mod Claims
+pub mod Looks
 pub mod Kept
 pub mod Match
 pub mod Letters

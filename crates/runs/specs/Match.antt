@@ -1,29 +1,33 @@
--- A history of accepted steps, and a bench that is as the rules say of it: its settings, instant, command and arm, where each train is and since when,
--- and what it keeps. Assumes nothing.
+-- A history of accepted steps, and a bench that is as the rules say of it: its settings, instant, command and arm, the arm before the last
+-- clock step, where each train is and since when, and what it keeps. Assumes nothing.
 use Prim.Native.Nat.{ℕ}
 use mathlib.Core.Path.{_≡_}
 use mathlib.Core.Bool.{Bool, true, cond}
 use mathlib.Core.List.{[], _∷_}
 use Rattle.settings.specs.declared.Settings.{Settings}
 use Rattle.trains.specs.declared.Standing.{Standing}
-use Rattle.trains.specs.declared.Standing.the-variants.{Away, Coming, Inside}
 use Rattle.trains.specs.declared.Table.{Table}
 use Rattle.trains.specs.Table.{standingOf, WellFormed}
 use Rattle.bench.specs.declared.Bench.{Bench}
 use Rattle.bench.specs.Bench.{nowOf, commandOf, armOf}
 use Rattle.bench.specs.Full.{Kept}
-use Rattle.runs.specs.History.{History, instant, arm, Place, away, coming, inside, place, since, command, stepRefusal}
+use Rattle.runs.specs.History.{History, instant, arm, armBefore, Place, away, coming, inside, place, since, command, stepRefusal}
+use Rattle.runs.specs.Demand.{standingFrom}
 
 -- every step of the history was accepted after those before it
 abbrev pub Valid : Settings → History → Type 0
 Valid s [] = Unit {0}
 Valid s (x ∷ h) = Valid s h × (stepRefusal s h x ≡ 0)
 
--- a train's standing, from where it is and its last approach; a table that is not told of occupies has the train inside as coming
+-- where a table has a train: one that is not told of occupies has the train inside as coming
+abbrev pub placeTold : Bool → Place → Place
+placeTold told away = away
+placeTold told coming = coming
+placeTold told inside = cond told inside coming
+
+-- so its standing there
 abbrev pub shown : Bool → Place → ℕ → Standing
-shown told away a = Away
-shown told coming a = Coming a
-shown told inside a = cond told (Inside a) (Coming a)
+shown told p a = standingFrom (placeTold told p) a
 
 -- settings, an instant and a table are as the rules say; the command stands apart, since a look comes last.
 -- The bench's table is told of occupies, and that of a cabinet alone is not
@@ -38,4 +42,5 @@ pub record Match (s : Settings) (h : History) (b : Bench) : Type 0 where
   pub core : Core true s h (b .head .settings) (nowOf b) (b .table)
   pub command : commandOf b ≡ command s h
   pub angle : armOf b ≡ arm h
+  pub previous : b .head .motion .previous ≡ armBefore h
   pub kept : Kept b
