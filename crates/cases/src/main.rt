@@ -1,6 +1,5 @@
 // The bench cases a to m of document 01 through the built functions, one line each, and its sample record with the report.
 // A step shows 0 (taken with no command), D or U (taken, with that command) or its refusal number; `second/expected` has the same lines.
-use arm::Reading;
 use bench::Bench;
 use bench::Moved;
 use cabinet::Answer;
@@ -37,15 +36,6 @@ fn shown(m: Moved) -> Bench {
     let answer = m.answer;
     show_answer(answer);
     m.bench
-}
-
-// The angle, or 12.
-fn show_reading(degrees: f32) {
-    let reading = arm::to_64ths(degrees);
-    match reading {
-        Reading::Angle(k) => show(k as u64),
-        Reading::Refused => show(12),
-    }
 }
 
 // ---- settings
@@ -87,24 +77,30 @@ fn after(b: Bench, x: Step) -> Bench {
     m.bench
 }
 
-// Train 1 approaches at 0; the command down at 1.
-fn at_1() -> Bench {
-    let b = after(fresh(), Step::Approach(1));
+// From a fresh bench: train 1 approaches at 0; the command down at 1.
+fn at_1(start: Bench) -> Bench {
+    let b = after(start, Step::Approach(1));
     after(b, Step::Clock(90.0))
 }
 
-fn at_2() -> Bench {
-    after(at_1(), Step::Clock(45.0))
+fn at_2(start: Bench) -> Bench {
+    after(at_1(start), Step::Clock(45.0))
 }
 
-fn at_3() -> Bench {
-    after(at_2(), Step::Clock(0.0))
+fn at_3(start: Bench) -> Bench {
+    after(at_2(start), Step::Clock(0.0))
 }
 
 // Train 1 inside at 4.
-fn inside_at_4() -> Bench {
-    let b = after(at_3(), Step::Occupy(1));
+fn inside_at_4(start: Bench) -> Bench {
+    let b = after(at_3(start), Step::Occupy(1));
     after(b, Step::Clock(0.0))
+}
+
+// Train 1 leaves at 4, under K with Q 2880 and Y 2: the command up and the arm at 0, so that 45 degrees and more may follow.
+fn left_at_4() -> Bench {
+    let m = bench::start(worked::settings_like(3, 2880, 3, 2));
+    after(inside_at_4(m.bench), Step::Leave(1))
 }
 
 // Nothing at the last instant.
@@ -117,7 +113,7 @@ fn at_last_instant() -> Bench {
 // An occupy at 2 and at 3; the clock at 4 with the train still coming.
 fn cases_e_f() {
     print(b"e");
-    let b = shown(at_2().occupy(1));
+    let b = shown(at_2(fresh()).occupy(1));
     let coming = after(b, Step::Clock(0.0));
     shown(coming.occupy(1));
     print(b"\nf");
@@ -138,23 +134,35 @@ fn case_g() {
 // The command down at 5760: 2880, and 2881; at 0: 1.
 fn cases_h_i() {
     print(b"h");
-    shown(at_1().clock(45.0));
-    shown(at_1().clock(45.015625));
+    shown(at_1(fresh()).clock(45.0));
+    shown(at_1(fresh()).clock(45.015625));
     print(b"\ni");
-    shown(at_3().clock(0.015625));
+    shown(at_3(fresh()).clock(0.015625));
     print(b"\n");
 }
 
 // Train 1 inside at 4: approach of 2, leave of 1, clock; and leave of 1, approach of 2, clock.
 fn case_j() {
     print(b"j");
-    let b = shown(inside_at_4().approach(2));
+    let b = shown(inside_at_4(fresh()).approach(2));
     let c = shown(b.leave(1));
     shown(c.clock(0.0));
-    let d = shown(inside_at_4().leave(1));
+    let d = shown(inside_at_4(fresh()).leave(1));
     let e = shown(d.approach(2));
     shown(e.clock(90.0));
     print(b"\n");
+}
+
+// The angle that a clock step brings to the bench in 64ths, or its refusal number.
+fn show_reading(degrees: f32) {
+    let m = left_at_4().clock(degrees);
+    let answer = m.answer;
+    let number = runs::number_byte(answer);
+    if number == 0 {
+        show(m.bench.head.motion.angle as u64);
+    } else {
+        show(number as u64);
+    }
 }
 
 // Readings; the empty text, number and line; the clock at the last instant.

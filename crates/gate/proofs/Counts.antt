@@ -1,12 +1,11 @@
 -- Laws of counts: so many bytes are at a buffer's start. Assumes nothing.
 use Prim.Native.Nat.{ℕ, _+_, _≤_}
-use mathlib.Core.Path.{_≡_, ap, _∙_}
+use mathlib.Core.Path.{_≡_, ap}
 use mathlib.Core.Bool.{true}
 use mathlib.Core.List.{List}
 use native.Mathlib.Omega.{arith}
 use borrow.Author.Tests.{le-leb}
-use lib.ListN.{length, take, drop, length-take, length-append, length-drop}
-use lib.Seq.{take-append-le, take-length}
+use lib.ListN.{length, length-take, length-append, length-drop}
 use Rattle.io.specs.Counts.{Counts}
 use Rattle.lines.specs.Bytes.{fits, splice}
 use Rattle.report.specs.declared.Reported.{Reported}
@@ -18,11 +17,10 @@ pub counted : (n : ℕ) (xs : List ℕ) → n ≤ length xs → Counts n xs
 counted n xs h = (h, simp length-take (omega arith))
 
 -- a report that fits is at its buffer's start
-pub report-held : {lines out : List ℕ} {r : Reported} {after : List ℕ} → length lines ≤ length out → ReportWritten lines out r after → Held (r .bytes) lines after
+pub report-held : {lines out : List ℕ} {r : Reported} {after : List ℕ} → length lines ≤ length out → ReportWritten lines out r after → Held (r .bytes) lines out after
 report-held {lines} {out} {r} {after} h w =
     let f : fits out 0 (length lines) ≡ true = le-leb (0 + length lines) (length out) (omega arith) in
     let given : r .bytes ≡ length lines = ap (λ (x : Reported). x .bytes) (rw f at (w .gives)) in
     let left : after ≡ splice out 0 lines = rw f at (w .left) in
-    let start : take (length lines) after ≡ lines = ap (take (length lines)) left ∙ take-append-le (length lines) lines (drop (0 + length lines) out) (omega arith) ∙ take-length lines in
     let long : length after ≡ length (splice out 0 lines) = ap length left in
-    record { whole = given; bytes = rw given start; within = counted _ _ (omega (arith, simp (length-append, length-drop) at long)) }
+    record { whole = given; bytes = left; within = counted _ _ (omega (arith, simp (length-append, length-drop) at long)) }

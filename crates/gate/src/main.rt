@@ -63,10 +63,10 @@ fn asks_report() -> bool {
     named & (os::arg_count() == 2)
 }
 
-// The report of a text, at the start of a buffer that holds every report: how many bytes it has.
+// The report of a text, at the start of a buffer that holds every report, its other bytes as they were: how many bytes the report has.
 fn make_report(text: &[u8], out: &mut [u8]) -> usize
     requires { ⌜ 166000 ≤ length (now out) ⌝ }
-    ensures { λ r. ⌜ Held r (reportOf (now (text .entry))) (now (out .exit)) ⌝ }
+    ensures { λ r. ⌜ Held r (reportOf (now (text .entry))) (now (out .entry)) (now (out .exit)) ⌝ }
 {
     let r = report::report(text, out);
     r.bytes

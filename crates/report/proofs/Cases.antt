@@ -10,27 +10,27 @@ use Rattle.runs.specs.declared.Step.the-variants.{Approach, Occupy, Leave}
 use Rattle.runs.specs.History.{someTrain}
 use Rattle.runs.specs.Steps.{tick}
 use Rattle.stretches.specs.Stretches.{laterMoments, only, stretchesFrom, armBelow, someInside}
-use Rattle.report.specs.Report.{reportLine, merged, runReport}
+use Rattle.report.specs.Report.{reportLine, linesOf, rows, runReport}
 
 abbrev entered : List Step
 entered = Approach 1 ∷ tick 5760 ∷ tick 2880 ∷ tick 0 ∷ Occupy 1 ∷ tick 0 ∷ []
 
 -- document 01's sample
 pub sample-report : runReport (entered ++ (Leave 1 ∷ tick 5760 ∷ [])) ≡ reportLine 2 4 78 ++ reportLine 3 4 79 ++ reportLine 1 3 90
-unfolding runReport merged reportLine numeral figureOf laterMoments only stretchesFrom armBelow someInside someTrain round degrees readingOf
+unfolding runReport linesOf rows reportLine numeral figureOf laterMoments only stretchesFrom armBelow someInside someTrain round degrees readingOf
 sample-report = refl
 
 -- cut while train 1 is inside: both are running
 pub running-report : runReport entered ≡ reportLine 2 4 110 ++ reportLine 3 4 111 ++ reportLine 1 3 90
-unfolding runReport merged reportLine numeral figureOf laterMoments only stretchesFrom armBelow someInside someTrain round degrees readingOf
+unfolding runReport linesOf rows reportLine numeral figureOf laterMoments only stretchesFrom armBelow someInside someTrain round degrees readingOf
 running-report = refl
 
 -- train 1 leaves and train 2 is inside at once: two stretches
 pub touching-report : runReport (Approach 2 ∷ entered ++ (Leave 1 ∷ Occupy 2 ∷ tick 0 ∷ Leave 2 ∷ [])) ≡ reportLine 2 5 110 ++ reportLine 3 4 79 ++ reportLine 4 5 79 ++ reportLine 2 4 90
-unfolding runReport merged reportLine numeral figureOf laterMoments only stretchesFrom armBelow someInside someTrain round degrees readingOf
+unfolding runReport linesOf rows reportLine numeral figureOf laterMoments only stretchesFrom armBelow someInside someTrain round degrees readingOf
 touching-report = refl
 
 -- train 1 is inside for no tick: a stretch of one instant
 pub moment-report : runReport (Approach 1 ∷ tick 5760 ∷ tick 2880 ∷ tick 0 ∷ Occupy 1 ∷ Leave 1 ∷ []) ≡ reportLine 2 3 110 ++ reportLine 3 3 79 ++ reportLine 1 2 90
-unfolding runReport merged reportLine numeral figureOf laterMoments only stretchesFrom armBelow someInside someTrain round degrees readingOf
+unfolding runReport linesOf rows reportLine numeral figureOf laterMoments only stretchesFrom armBelow someInside someTrain round degrees readingOf
 moment-report = refl

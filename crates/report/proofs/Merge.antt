@@ -1,5 +1,5 @@
 -- The stretches that two cursors find, merged into a buffer line by line. Assumes nothing.
-use Prim.Native.Nat.{ℕ, zero, suc, _+_, _*_, _≤_, _<_}
+use Prim.Native.Nat.{ℕ, suc, _+_, _*_, _≤_, _<_}
 use native.Mathlib.Omega.{arith}
 use mathlib.Core.Path.{_≡_, refl, sym, ap, _∙_}
 use mathlib.Core.Bool.{Bool, true, false, not, cond, _&&_, _||_, true≢false}
@@ -12,41 +12,37 @@ use Rattle.stretches.specs.declared.Next.{Next}
 use Rattle.stretches.specs.declared.Sort.the-variants.{Lowered, Occupied}
 use Rattle.stretches.specs.declared.Stretch.{Stretch}
 use Rattle.stretches.specs.Walk.{startCursor, stretchesAhead, headed, Gives}
-use Rattle.report.specs.Report.{stretchLetter, stretchLine, merged}
+use Rattle.report.specs.Report.{stretchLetter, stretchLine, N, O, rows, linesOf}
 use Rattle.report.specs.Rows.{comesFirst, ns, os, rowsIn, rowLines, Space}
 use Rattle.report.proofs.Rows.{length-row}
 
 -- ---- lists of stretches merged
 
 -- all lines of both
-abbrev pub mergedAll : List Stretch → List Stretch → List ℕ
-mergedAll xs ys = merged (length xs + length ys) xs ys
+abbrev pub merged : List Stretch → List Stretch → List ℕ
+merged xs ys = linesOf (rows xs ys)
 
 line-long : (c : ℕ) (x : Stretch) → length (stretchLine c x) ≡ 19
 line-long c x = length-row (x .first) (x .last) (stretchLetter c x)
 
-merged-long : (fuel : ℕ) (xs ys : List Stretch) → fuel ≡ length xs + length ys → length (merged fuel xs ys) ≡ 19 * fuel
-unfolding merged
-merged-long zero xs ys e = refl
-merged-long (suc fuel) [] [] e = absurd (omega arith)
-merged-long (suc fuel) (x ∷ xs) [] e = length-append (stretchLine 78 x) _ ∙ omega (arith, line-long 78 x, merged-long fuel xs [] (omega arith))
-merged-long (suc fuel) [] (y ∷ ys) e = length-append (stretchLine 79 y) _ ∙ omega (arith, line-long 79 y, merged-long fuel [] ys (omega arith))
-merged-long (suc fuel) (x ∷ xs) (y ∷ ys) e = go (leb (x .first) (y .first)) (merged-long fuel xs (y ∷ ys) (omega arith)) (merged-long fuel (x ∷ xs) ys (omega arith))
+line-more : (c : ℕ) (x : Stretch) (l : List ℕ) (k : ℕ) → length l ≡ 19 * k → length (stretchLine c x ++ l) ≡ 19 * suc k
+line-more c x l k e = length-append (stretchLine c x) l ∙ omega (arith, line-long c x)
+
+merged-long : (xs ys : List Stretch) → length (merged xs ys) ≡ 19 * (length xs + length ys)
+unfolding rows linesOf
+merged-long [] [] = refl
+merged-long (x ∷ xs) [] = line-more 78 x (merged xs []) (length xs + 0) (merged-long xs []) ∙ omega arith
+merged-long [] (y ∷ ys) = line-more 79 y (merged [] ys) (0 + length ys) (merged-long [] ys) ∙ omega arith
+merged-long (x ∷ xs) (y ∷ ys) = go (leb (x .first) (y .first)) (merged-long xs (y ∷ ys)) (merged-long (x ∷ xs) ys)
   where
-    go : (b : Bool) → length (merged fuel xs (y ∷ ys)) ≡ 19 * fuel → length (merged fuel (x ∷ xs) ys) ≡ 19 * fuel →
-        length (cond b (stretchLine 78 x ++ merged fuel xs (y ∷ ys)) (stretchLine 79 y ++ merged fuel (x ∷ xs) ys)) ≡ 19 * suc fuel
-    go true l m = length-append (stretchLine 78 x) _ ∙ omega (arith, line-long 78 x)
-    go false l m = length-append (stretchLine 79 y) _ ∙ omega (arith, line-long 79 y)
+    go : (b : Bool) → length (merged xs (y ∷ ys)) ≡ 19 * (length xs + suc (length ys)) → length (merged (x ∷ xs) ys) ≡ 19 * (suc (length xs) + length ys) →
+        length (linesOf (cond b (N x ∷ rows xs (y ∷ ys)) (O y ∷ rows (x ∷ xs) ys))) ≡ 19 * (suc (length xs) + suc (length ys))
+    go true l m = line-more 78 x (merged xs (y ∷ ys)) (length xs + suc (length ys)) l ∙ omega arith
+    go false l m = line-more 79 y (merged (x ∷ xs) ys) (suc (length xs) + length ys) m ∙ omega arith
 
 pub rows-bytes : (t : List ℕ) → length (rowLines t) ≡ 19 * rowsIn t
 unfolding rowLines rowsIn
-rows-bytes t = merged-long (length (ns t) + length (os t)) (ns t) (os t) refl
-
-suc-left : (a b : ℕ) → suc a + b ≡ suc (a + b)
-suc-left a b = omega arith
-
-suc-right : (a b : ℕ) → a + suc b ≡ suc (a + b)
-suc-right a b = omega arith
+rows-bytes t = merged-long (ns t) (os t)
 
 -- the next line is the N stretch found, or the O stretch found
 module _ (n o : Next) where
@@ -65,25 +61,25 @@ module _ (n o : Next) where
       go true false q r = sym r
       go false b q r = q
 
-  first-next : (xs ys : List Stretch) → comesFirst n o ≡ true → mergedAll (headed n xs) (headed o ys) ≡ stretchLine 78 (n .stretch) ++ mergedAll xs (headed o ys)
-  unfolding merged
+  first-next : (xs ys : List Stretch) → comesFirst n o ≡ true → merged (headed n xs) (headed o ys) ≡ stretchLine 78 (n .stretch) ++ merged xs (headed o ys)
+  unfolding rows linesOf
   first-next xs ys e = go (n .found) (o .found) e
     where
       go : (a b : Bool) → (a && (not b || leb (n .stretch .first) (o .stretch .first))) ≡ true →
-          mergedAll (cond a (n .stretch ∷ xs) []) (cond b (o .stretch ∷ ys) []) ≡ stretchLine 78 (n .stretch) ++ mergedAll xs (cond b (o .stretch ∷ ys) [])
-      go true true q = ap (λ (k : ℕ). merged k (n .stretch ∷ xs) (o .stretch ∷ ys)) (suc-left (length xs) (suc (length ys))) ∙ rw q
-      go true false q = ap (λ (k : ℕ). merged k (n .stretch ∷ xs) []) (suc-left (length xs) 0)
+          merged (cond a (n .stretch ∷ xs) []) (cond b (o .stretch ∷ ys) []) ≡ stretchLine 78 (n .stretch) ++ merged xs (cond b (o .stretch ∷ ys) [])
+      go true true q = rw q
+      go true false q = refl
       go false b q = absurd (true≢false (sym q))
 
-  second-next : (xs ys : List Stretch) → (n .found || o .found) ≡ true → comesFirst n o ≡ false → mergedAll (headed n xs) (headed o ys) ≡ stretchLine 79 (o .stretch) ++ mergedAll (headed n xs) ys
-  unfolding merged
+  second-next : (xs ys : List Stretch) → (n .found || o .found) ≡ true → comesFirst n o ≡ false → merged (headed n xs) (headed o ys) ≡ stretchLine 79 (o .stretch) ++ merged (headed n xs) ys
+  unfolding rows linesOf
   second-next xs ys f e = go (n .found) (o .found) f e
     where
       go : (a b : Bool) → (a || b) ≡ true → (a && (not b || leb (n .stretch .first) (o .stretch .first))) ≡ false →
-          mergedAll (cond a (n .stretch ∷ xs) []) (cond b (o .stretch ∷ ys) []) ≡ stretchLine 79 (o .stretch) ++ mergedAll (cond a (n .stretch ∷ xs) []) ys
-      go true true p q = ap (λ (k : ℕ). merged k (n .stretch ∷ xs) (o .stretch ∷ ys)) (suc-right (suc (length xs)) (length ys)) ∙ rw q
+          merged (cond a (n .stretch ∷ xs) []) (cond b (o .stretch ∷ ys) []) ≡ stretchLine 79 (o .stretch) ++ merged (cond a (n .stretch ∷ xs) []) ys
+      go true true p q = rw q
       go true false p q = absurd (true≢false q)
-      go false true p q = ap (λ (k : ℕ). merged k [] (o .stretch ∷ ys)) (suc-right 0 (length ys))
+      go false true p q = refl
       go false false p q = absurd (true≢false (sym p))
 
 -- ---- the rows in the buffer
@@ -107,7 +103,7 @@ module _ (t out₀ : List ℕ) (space : Space t out₀) where
     pub bytes : length sofar ≡ at
     pub written : out ≡ splice out₀ 0 sofar
     pub count : at + 19 * (length (aheadN n) + length (aheadO o)) ≡ 19 * rowsIn t
-    pub rest : sofar ++ mergedAll (aheadN n) (aheadO o) ≡ rowLines t
+    pub rest : sofar ++ merged (aheadN n) (aheadO o) ≡ rowLines t
 
   pub merging-start : (n o : Next) → Gives Lowered t startCursor n → Gives Occupied t startCursor o → Merging out₀ n o 0
   unfolding rowsIn rowLines
@@ -130,7 +126,7 @@ module _ (t out₀ : List ℕ) (space : Space t out₀) where
     -- one row more
     row-more : (row after : List ℕ) (n′ o′ : Next) → length row ≡ 19 → Within n′ → Within o′ →
         length (aheadN n) + length (aheadO o) ≡ suc (length (aheadN n′) + length (aheadO o′)) →
-        mergedAll (aheadN n) (aheadO o) ≡ row ++ mergedAll (aheadN n′) (aheadO o′) → after ≡ splice out at row → Merging after n′ o′ (at + 19)
+        merged (aheadN n) (aheadO o) ≡ row ++ merged (aheadN n′) (aheadO o′) → after ≡ splice out at row → Merging after n′ o′ (at + 19)
     row-more row after n′ o′ l x y e q p =
         record {
           withinN = x;
@@ -160,7 +156,7 @@ module _ (t out₀ : List ℕ) (space : Space t out₀) where
           let b = ap length (g .stands) in
           row-more (stretchLine 78 (n .stretch)) after next o (line-long 78 (n .stretch)) (g .ordered, g .within) (w .withinO) (omega arith)
           (first-next n o (stretchesAhead Lowered t (n .cursor)) (stretchesAhead Occupied t (o .cursor)) e
-          ∙ ap (λ (l : List Stretch). stretchLine 78 (n .stretch) ++ mergedAll l (aheadO o)) (g .stands)) p
+          ∙ ap (λ (l : List Stretch). stretchLine 78 (n .stretch) ++ merged l (aheadO o)) (g .stands)) p
 
       pub less-n : (next : Next) → Gives Lowered t (n .cursor) next →
           length (aheadN next) + length (aheadO o) < length (aheadN n) + length (aheadO o)
@@ -180,7 +176,7 @@ module _ (t out₀ : List ℕ) (space : Space t out₀) where
           let b = ap length (g .stands) in
           row-more (stretchLine 79 (o .stretch)) after n next (line-long 79 (o .stretch)) (w .withinN) (g .ordered, g .within) (omega arith)
           (second-next n o (stretchesAhead Lowered t (n .cursor)) (stretchesAhead Occupied t (o .cursor)) more e
-          ∙ ap (λ (l : List Stretch). stretchLine 79 (o .stretch) ++ mergedAll (aheadN n) l) (g .stands)) p
+          ∙ ap (λ (l : List Stretch). stretchLine 79 (o .stretch) ++ merged (aheadN n) l) (g .stands)) p
 
       pub less-o : (next : Next) → Gives Occupied t (o .cursor) next →
           length (aheadN n) + length (aheadO next) < length (aheadN n) + length (aheadO o)
@@ -188,7 +184,7 @@ module _ (t out₀ : List ℕ) (space : Space t out₀) where
 
     -- the end
     pub merging-end : (n .found || o .found) ≡ false → out ≡ splice out₀ 0 (rowLines t)
-    unfolding merged
+    unfolding rows linesOf
     merging-end e = w .written ∙ ap (splice out₀ 0) (go (n .found) (o .found) refl refl e)
       where
         go : (a b : Bool) → n .found ≡ a → o .found ≡ b → (a || b) ≡ false → w .sofar ≡ rowLines t

@@ -1,6 +1,6 @@
 -- The report of a record text (document 01, "Report program"). Assumes nothing.
 -- Decides beyond it: a buffer too short for an R line is 14 and 0 too; the answer says how many bytes were written.
-use Prim.Native.Nat.{ℕ, zero, suc, _+_}
+use Prim.Native.Nat.{ℕ, _+_}
 use mathlib.Core.Path.{_≡_}
 use mathlib.Core.Bool.{cond}
 use mathlib.Core.List.{List, [], _∷_, _++_}
@@ -31,22 +31,35 @@ stretchLetter c x = cond (x .running) (c + 32) c
 abbrev pub stretchLine : ℕ → Stretch → List ℕ
 stretchLine c x = reportLine (x .first) (x .last) (stretchLetter c x)
 
--- by first instant, N before O if equal, stretches of one kind as they happened; `fuel` lines at most
-unfoldable pub merged : ℕ → List Stretch → List Stretch → List ℕ
-merged zero ns os = []
-merged (suc fuel) [] [] = []
-merged (suc fuel) (n ∷ ns) [] = stretchLine 78 n ++ merged fuel ns []
-merged (suc fuel) [] (o ∷ os) = stretchLine 79 o ++ merged fuel [] os
-merged (suc fuel) (n ∷ ns) (o ∷ os) =
-    cond (leb (n .first) (o .first)) (stretchLine 78 n ++ merged fuel ns (o ∷ os)) (stretchLine 79 o ++ merged fuel (n ∷ ns) os)
+-- a row of a report: an N (or n) stretch, or an O (or o) stretch
+pub data Row : Type 0 where
+  N O : Stretch → Row
+
+abbrev pub rowLine : Row → List ℕ
+rowLine (N x) = stretchLine 78 x
+rowLine (O x) = stretchLine 79 x
+
+-- the rows' lines, one after another
+unfoldable pub linesOf : List Row → List ℕ
+linesOf [] = []
+linesOf (r ∷ rs) = rowLine r ++ linesOf rs
+
+-- the stretches of both kinds by first instant, N before O if equal, stretches of one kind as they happened (that they are in that order: Order)
+unfoldable pub rows : List Stretch → List Stretch → List Row
+rows [] [] = []
+rows (n ∷ ns) [] = N n ∷ rows ns []
+rows [] (o ∷ os) = O o ∷ rows [] os
+rows (n ∷ ns) (o ∷ os) = cond (leb (n .first) (o .first)) (N n ∷ rows ns (o ∷ os)) (O o ∷ rows (n ∷ ns) os)
 
 -- ---- reports
 
--- an accepted run's report: its stretches, and Z with the number of O and o lines and of instants below 5,760
+-- the rows of an accepted run's report
+abbrev pub runRows : List Step → List Row
+runRows xs = rows (loweredStretches xs) (occupiedStretches xs)
+
+-- its report: their lines, and Z with the number of O and o lines and of instants below 5,760
 unfoldable pub runReport : List Step → List ℕ
-runReport xs =
-    merged (length (loweredStretches xs) + length (occupiedStretches xs)) (loweredStretches xs) (occupiedStretches xs)
-    ++ reportLine (length (occupiedStretches xs)) (length (below xs)) 90
+runReport xs = linesOf (runRows xs) ++ reportLine (length (occupiedStretches xs)) (length (below xs)) 90
 
 -- a refused text's report: R alone, with the number and the line
 abbrev pub refusalReport : ℕ → ℕ → List ℕ

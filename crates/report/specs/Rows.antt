@@ -9,7 +9,7 @@ use Rattle.stretches.specs.declared.Next.{Next}
 use Rattle.stretches.specs.declared.Sort.the-variants.{Lowered, Occupied}
 use Rattle.stretches.specs.declared.Stretch.{Stretch}
 use Rattle.stretches.specs.Walk.{startCursor, stretchesAhead}
-use Rattle.report.specs.Report.{merged}
+use Rattle.report.specs.Report.{rows, linesOf}
 
 -- the N stretch found comes before the O stretch found
 abbrev pub comesFirst : Next → Next → Bool
@@ -28,7 +28,7 @@ rowsIn t = length (ns t) + length (os t)
 
 -- their lines, merged
 unfoldable pub rowLines : List ℕ → List ℕ
-rowLines t = merged (rowsIn t) (ns t) (os t)
+rowLines t = linesOf (rows (ns t) (os t))
 
 -- a text that is reported, and the buffer has space for its rows
 pub record Space (t out : List ℕ) : Type 0 where

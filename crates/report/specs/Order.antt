@@ -1,0 +1,46 @@
+-- The order of a report's rows (document 01, "Report program"): first instant; N before O if equal; stretches of one kind as they happened.
+-- Assumes nothing.
+use Prim.Native.Nat.{ℕ, _<_, _≤_}
+use mathlib.Core.Path.{_≡_}
+use mathlib.Core.List.{List, [], _∷_}
+use Rattle.runs.specs.declared.Step.{Step}
+use Rattle.stretches.specs.declared.Stretch.{Stretch}
+use Rattle.stretches.specs.Stretches.{loweredStretches, occupiedStretches}
+use Rattle.report.specs.Report.{Row, N, O, runRows}
+
+-- a row's first instant
+abbrev pub firstOf : Row → ℕ
+firstOf (N x) = x .first
+firstOf (O x) = x .first
+
+-- a row may stand before an N that begins later, and before an O that begins later or at the same instant: so N before O if equal
+abbrev pub Before : Row → Row → Type 0
+Before r (N x) = firstOf r < x .first
+Before r (O x) = firstOf r ≤ x .first
+
+-- before each of these
+abbrev pub BeforeAll : Row → List Row → Type 0
+BeforeAll r [] = Unit {0}
+BeforeAll r (q ∷ qs) = Before r q × BeforeAll r qs
+
+-- each row before all that follow it
+abbrev pub Rises : List Row → Type 0
+Rises [] = Unit {0}
+Rises (r ∷ rs) = BeforeAll r rs × Rises rs
+
+-- the stretches of one kind, in the order of the rows
+abbrev pub rowsN : List Row → List Stretch
+rowsN [] = []
+rowsN (N x ∷ rs) = x ∷ rowsN rs
+rowsN (O x ∷ rs) = rowsN rs
+
+abbrev pub rowsO : List Row → List Stretch
+rowsO [] = []
+rowsO (N x ∷ rs) = rowsO rs
+rowsO (O x ∷ rs) = x ∷ rowsO rs
+
+-- the rows of every run's report
+pub record ReportOrder : Type 0 where
+  pub rises : (xs : List Step) → Rises (runRows xs)
+  pub happenedN : (xs : List Step) → rowsN (runRows xs) ≡ loweredStretches xs
+  pub happenedO : (xs : List Step) → rowsO (runRows xs) ≡ occupiedStretches xs
