@@ -19,7 +19,7 @@ add-result : tie.Need-add-result
 add-result c = search needs
 
 returns : tie.Need-returns
-returns c = simp (c .number .ensures, c .before .read .ensures)
+returns c = simp (c .number .ensures, c .before .read .ensures .gives)
 
 pub weqhaso-read-spec : {M : Type 1} → statement M
 weqhaso-read-spec =

@@ -23,7 +23,7 @@ enum-told c = search needs
 report-text-requires : tie.Need-report-text-requires
 report-text-requires c κs =
     let read = c .before .before .before in
-    (read .before .if1 .left, taken-says _ _ (read .before .if1 .left) (read .read .ensures) (c .before .enum-told .given .1))
+    (read .before .if1 .left, taken-says _ _ (read .before .if1 .left) (read .read .ensures .gives) (c .before .enum-told .given .1))
 
 enum-known-v : tie.Need-enum-known-v
 enum-known-v c = search needs
@@ -31,7 +31,7 @@ enum-known-v c = search needs
 report-refusal-requires-2 : tie.Need-report-refusal-requires-2
 report-refusal-requires-2 c κs =
     let read = c .before .before .before .before in
-    line-within _ _ (read .before .if1 .left) (read .read .ensures)
+    line-within _ _ (read .before .if1 .left) (read .read .ensures .gives)
 
 same-length-2 : tie.Need-same-length-2
 same-length-2 c = search needs
@@ -39,7 +39,7 @@ same-length-2 c = search needs
 returns-2 : tie.Need-returns-2
 returns-2 c =
     let read = c .before .before .before .before .before .before in
-    written-as (taken-report _ _ (read .before .if1 .left) (read .read .ensures) (c .before .before .before .before .enum-told .given .1)) (c .before .before .report-text .ensures)
+    written-as (taken-report _ _ (read .before .if1 .left) (read .read .ensures .gives) (c .before .before .before .before .enum-told .given .1)) (c .before .before .report-text .ensures)
 
 same-length-3 : tie.Need-same-length-3
 same-length-3 c = search needs
@@ -47,7 +47,7 @@ same-length-3 c = search needs
 returns-3 : tie.Need-returns-3
 returns-3 c =
     let read = c .before .before .before .before .before .before .before in
-    written-as (refused-report _ _ (read .before .if1 .left) (read .read .ensures) _ (c .before .before .before .before .before .v .given .1)) (c .before .before .report-refusal2 .ensures)
+    written-as (refused-report _ _ (read .before .if1 .left) (read .read .ensures .gives) _ (c .before .before .before .before .before .v .given .1)) (c .before .before .report-refusal2 .ensures)
 
 pub report-spec : {M : Type 1} → statement M
 report-spec =
