@@ -36,7 +36,7 @@ write-rows-requires : tie.Need-write-rows-requires
 write-rows-requires c κs =
     let counted = c .before .before .before .before in
     let start = counted .before .before .before .before in
-    counted-space _ _ _ (counted .before .tally-lowered .ensures) (counted .tally-occupied .ensures) _ (start .pre .0) (c .before .if1 .taken)
+    counted-space _ _ _ (counted .before .tally-lowered .ensures) (counted .tally-occupied .ensures) (start .args .out .now) (start .pre .0) (omega (arith, c .before .if1 .taken))
 
 cast-write-row : tie.Need-cast-write-row
 cast-write-row c =
@@ -72,14 +72,14 @@ returns c =
     let rows = c .before .before .before .before .before .before .before .before .before in
     let counted = rows .before .before .before .before .before in
     let start = counted .before .before .before .before in
-    run-written _ _ _ (counted .before .tally-lowered .ensures) (counted .tally-occupied .ensures) (start .pre .1) _ _
-    (rows .before .before .if1 .taken) _ _ (rows .write-rows .ensures) (c .before .before .before .write-row .ensures) (c .written-bytes .ensures)
+    run-written _ _ _ (counted .before .tally-lowered .ensures) (counted .tally-occupied .ensures) (start .pre .1) (start .args .out .now) _
+    (omega (arith, rows .before .before .if1 .taken)) _ _ (rows .write-rows .ensures) (c .before .before .before .write-row .ensures) (c .written-bytes .ensures)
 
 returns-2 : tie.Need-returns-2
 returns-2 c =
     let counted = c .before .before .before .before in
     let start = counted .before .before .before .before in
-    run-none _ _ _ (counted .before .tally-lowered .ensures) (counted .tally-occupied .ensures) (start .pre .1) _ _ (c .before .if1 .left) (c .too-short .ensures)
+    run-none _ _ _ (counted .before .tally-lowered .ensures) (counted .tally-occupied .ensures) (start .pre .1) (start .args .out .now) _ (omega (arith, c .before .if1 .left)) (c .too-short .ensures)
 
 pub report-text-spec : {M : Type 1} → statement M
 report-text-spec =
