@@ -1,8 +1,13 @@
-// The bench cases a to m of document 01 through the built functions, one line each, and its sample record with the report.
+// The bench cases a to m of document 01 through the built functions, one line each; what the bench shows along its sample run, and a cabinet
+// alone; and its sample record with the report.
 // A step shows 0 (taken with no command), D or U (taken, with that command) or its refusal number; `second/expected` has the same lines.
+use arm::Gate;
+use arm::Reading;
 use bench::Bench;
 use bench::Moved;
 use cabinet::Answer;
+use cabinet::Cabinet;
+use cabinet::Stepped;
 use libc::STDOUT_FILENO;
 use runs::Step;
 use settings::Verdict;
@@ -182,6 +187,110 @@ fn cases_k_l_m() {
     print(b"\n");
 }
 
+// ---- what the bench shows along the sample run
+
+// Degrees from 0 to 90 in 64ths, behind this sign.
+fn show_degrees(sign: &[u8], degrees: f32) {
+    let reading = arm::to_64ths(degrees);
+    match reading {
+        Reading::Angle(k) => {
+            print(sign);
+            io::print_decimal(STDOUT_FILENO, k as u64);
+        }
+        Reading::Refused => print(b" none"),
+    }
+}
+
+fn show_pose(b: Bench) {
+    let pose = b.pose();
+    show_degrees(b" ", pose.angle);
+    if pose.change < 0.0 {
+        show_degrees(b" -", 0.0 - pose.change);
+    } else {
+        show_degrees(b" ", pose.change);
+    }
+}
+
+fn show_gate(b: Bench) {
+    let gate = b.gate();
+    match gate {
+        Gate::Up => print(b" up"),
+        Gate::Down => print(b" down"),
+        Gate::Falling(degrees) => show_degrees(b" falling ", degrees),
+        Gate::Rising(degrees) => show_degrees(b" rising ", degrees),
+    }
+}
+
+// What is shown of a bench.
+enum Display {
+    Pose,
+    Gate,
+    Present,
+}
+
+fn show_bench(what: Display, b: Bench) {
+    match what {
+        Display::Pose => show_pose(b),
+        Display::Gate => show_gate(b),
+        Display::Present => show(b.table.present() as u64),
+    }
+}
+
+// The bench after a step, and what it shows.
+fn showing(what: Display, b: Bench, x: Step) -> Bench {
+    let next = after(b, x);
+    show_bench(what, next);
+    next
+}
+
+// At each of the nine moments of the sample run.
+fn sample_moments(what: Display) {
+    let start = fresh();
+    show_bench(what, start);
+    let b = showing(what, start, Step::Approach(1));
+    let b = showing(what, b, Step::Clock(90.0));
+    let b = showing(what, b, Step::Clock(45.0));
+    let b = showing(what, b, Step::Clock(0.0));
+    let b = showing(what, b, Step::Occupy(1));
+    let b = showing(what, b, Step::Clock(0.0));
+    let b = showing(what, b, Step::Leave(1));
+    showing(what, b, Step::Clock(90.0));
+    print(b"\n");
+}
+
+// ---- the cabinet alone
+
+// What a step answered, and the cabinet after it.
+fn heard(s: Stepped) -> Cabinet {
+    let answer = s.answer;
+    show_answer(answer);
+    s.cabinet
+}
+
+// What it hears of the sample run; its refusals, and a leave of a train that only came; the clock at the last instant.
+fn cabinet_alone() {
+    let fresh = cabinet::start(worked::settings_k()).cabinet;
+    print(b"cabinet");
+    let c = heard(fresh.approach(1));
+    let c = heard(c.clock());
+    let c = heard(c.clock());
+    let c = heard(c.clock());
+    let c = heard(c.clock());
+    let c = heard(c.leave(1));
+    heard(c.clock());
+    let c = heard(fresh.approach(0));
+    let c = heard(c.approach(97));
+    let c = heard(c.approach(1));
+    let c = heard(c.approach(1));
+    let c = heard(c.leave(2));
+    let c = heard(c.leave(1));
+    heard(c.leave(1));
+    let mut last = fresh;
+    last.control.now = 9999999;
+    heard(last.clock());
+    print(b"\n");
+}
+
 // ---- the sample record
 
 // The sample, whole, and its report: 19 lines of 15 bytes, and 3 of 19.
@@ -210,5 +319,12 @@ fn main() {
     cases_h_i();
     case_j();
     cases_k_l_m();
+    print(b"pose");
+    sample_moments(Display::Pose);
+    print(b"gate");
+    sample_moments(Display::Gate);
+    print(b"present");
+    sample_moments(Display::Present);
+    cabinet_alone();
     sample();
 }
