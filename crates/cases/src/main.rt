@@ -225,14 +225,12 @@ fn show_gate(b: Bench) {
 enum Display {
     Pose,
     Gate,
-    Present,
 }
 
 fn show_bench(what: Display, b: Bench) {
     match what {
         Display::Pose => show_pose(b),
         Display::Gate => show_gate(b),
-        Display::Present => show(b.table.present() as u64),
     }
 }
 
@@ -265,6 +263,29 @@ fn heard(s: Stepped) -> Cabinet {
     let answer = s.answer;
     show_answer(answer);
     s.cabinet
+}
+
+// The cabinet after a step, and the trains present.
+fn counted(s: Stepped) -> Cabinet {
+    let c = s.cabinet;
+    show(c.trains_present() as u64);
+    c
+}
+
+// At each of the nine moments of the sample run: the cabinet does not hear the occupy.
+fn present_along_sample() {
+    let start = cabinet::start(worked::settings_k()).cabinet;
+    print(b"present");
+    show(start.trains_present() as u64);
+    let c = counted(start.approach(1));
+    let c = counted(c.clock());
+    let c = counted(c.clock());
+    let c = counted(c.clock());
+    show(c.trains_present() as u64);
+    let c = counted(c.clock());
+    let c = counted(c.leave(1));
+    counted(c.clock());
+    print(b"\n");
 }
 
 // What it hears of the sample run; its refusals, and a leave of a train that only came; the clock at the last instant.
@@ -323,8 +344,7 @@ fn main() {
     sample_moments(Display::Pose);
     print(b"gate");
     sample_moments(Display::Gate);
-    print(b"present");
-    sample_moments(Display::Present);
+    present_along_sample();
     cabinet_alone();
     sample();
 }
