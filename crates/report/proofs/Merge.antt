@@ -139,14 +139,14 @@ module _ (t out₀ : List ℕ) (space : Space t out₀) where
         }
 
     -- a row fits
-    room : (r : Next) → Within r → 1 ≤ length (aheadN n) + length (aheadO o) → (at + 19 ≤ length out) × (r .stretch .first < 4294967296) × (r .stretch .last < 4294967296)
+    room : (r : Next) → Within r → 1 ≤ length (aheadN n) + length (aheadO o) → (at + 19 ≤ length out) × (r .stretch .first < 100000000) × (r .stretch .last < 100000000)
     room r b h = (omega (arith, merging-length, w .count, space .room), omega (arith, b .0, b .1, space .short), omega (arith, b .1, space .short))
 
     module _ (e : comesFirst n o ≡ true) where
       taken-n : aheadN n ≡ n .stretch ∷ stretchesAhead Lowered t (n .cursor)
       taken-n = rw (first-found n o e)
 
-      pub room-n : (at + 19 ≤ length out) × (n .stretch .first < 4294967296) × (n .stretch .last < 4294967296)
+      pub room-n : (at + 19 ≤ length out) × (n .stretch .first < 100000000) × (n .stretch .last < 100000000)
       room-n = let a = ap length taken-n in room n (w .withinN) (omega arith)
 
       pub merging-n : (after : List ℕ) → after ≡ splice out at (stretchLine 78 (n .stretch)) → (next : Next) → Gives Lowered t (n .cursor) next →
@@ -166,7 +166,7 @@ module _ (t out₀ : List ℕ) (space : Space t out₀) where
       taken-o : aheadO o ≡ o .stretch ∷ stretchesAhead Occupied t (o .cursor)
       taken-o = rw (second-found n o more e)
 
-      pub room-o : (at + 19 ≤ length out) × (o .stretch .first < 4294967296) × (o .stretch .last < 4294967296)
+      pub room-o : (at + 19 ≤ length out) × (o .stretch .first < 100000000) × (o .stretch .last < 100000000)
       room-o = let a = ap length taken-o in room o (w .withinO) (omega arith)
 
       pub merging-o : (after : List ℕ) → after ≡ splice out at (stretchLine 79 (o .stretch)) → (next : Next) → Gives Occupied t (o .cursor) next →

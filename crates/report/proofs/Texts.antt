@@ -70,7 +70,7 @@ module _ (t : List ℕ) (o : Outcome) (few : length t ≤ 65535) (r : o ≡ read
       let v : readText current t .verdict ≡ Refused k = ap (λ (x : Outcome). x .verdict) (sym r) ∙ e in
       rw (le-ltb 65535 (length t) few, v) (ap (λ (x : Outcome). refusalReport k (x .line)) r)
 
-  pub line-within : o .line < 4294967296
+  pub line-within : o .line < 100000000
   line-within = rw r (omega (arith, text-line t))
 
 -- too long an input

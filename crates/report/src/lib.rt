@@ -24,7 +24,7 @@ pub struct Reported {
 
 // A report line from `at` on.
 fn write_row(out: &mut [u8], at: usize, n: u32, m: u32, letter: u8)
-    requires { ⌜ at + 19 ≤ length (now out) ⌝ }
+    requires { ⌜ (at + 19 ≤ length (now out)) × (n < 100000000) × (m < 100000000) ⌝ }
     ensures { λ _. ⌜ now (out .exit) ≡ splice (now (out .entry)) at (reportLine n m letter) ⌝ }
 {
     lines::put_number(out, at, 8, n);
@@ -44,7 +44,7 @@ fn stretch_letter(capital: u8, running: bool) -> u8
 
 // A stretch's line from `at` on.
 fn write_stretch(out: &mut [u8], at: usize, capital: u8, x: Stretch)
-    requires { ⌜ (at + 19 ≤ length (now out)) × (capital < 128) × (x .first < 4294967296) × (x .last < 4294967296) ⌝ }
+    requires { ⌜ (at + 19 ≤ length (now out)) × (capital < 128) × (x .first < 100000000) × (x .last < 100000000) ⌝ }
     ensures { λ _. ⌜ now (out .exit) ≡ splice (now (out .entry)) at (stretchLine capital x) ⌝ }
 {
     let letter = stretch_letter(capital, x.running);
@@ -119,7 +119,7 @@ fn report_text(text: &[u8], out: &mut [u8]) -> Reported
 
 // The report of a refused text: R alone.
 fn report_refusal(number: u8, line: usize, out: &mut [u8]) -> Reported
-    requires { ⌜ line < 4294967296 ⌝ }
+    requires { ⌜ line < 100000000 ⌝ }
     ensures { λ r. ⌜ ReportWritten (refusalReport number line) (now (out .entry)) r (now (out .exit)) ⌝ }
 {
     if 19 <= out.len() {

@@ -53,7 +53,11 @@ cast-write-row-2 c =
     omega (arith, few .0, few .1, few .2, start .pre .0)
 
 write-row-requires : tie.Need-write-row-requires
-write-row-requires c κs = search needs
+write-row-requires c κs =
+    let counted = c .before .before .before .before .before .before .before .before .before .before in
+    let start = counted .before .before .before .before in
+    let few = counted-few _ _ _ (counted .before .tally-lowered .ensures) (counted .tally-occupied .ensures) in
+    omega (arith, few .0, few .1, few .2, start .pre .0)
 
 add-written-bytes : tie.Need-add-written-bytes
 add-written-bytes c = search needs
