@@ -18,4 +18,9 @@ pub mod Through
 pub mod Turns
 pub mod Onward
 pub mod Running
+pub mod Events
+pub mod Same
+pub mod Turn
+pub mod Swap
 pub mod Cases
+pub mod Exception

@@ -27,7 +27,7 @@ look-settled s h Down due = go (someDue s h (raising s h)) refl
     go false e = absurd (none-due s h (raising s h) e due)
 
 -- so is that of every history of accepted steps
-look-again : (s : Settings) (h : History) → Valid s h → look s h (command s h) ≡ command s h
+pub look-again : (s : Settings) (h : History) → Valid s h → look s h (command s h) ≡ command s h
 look-again s h v = look-settled s h (command s h) (settled s h v)
 
 pub looks-always : LooksAlways

@@ -8,3 +8,4 @@ pub mod Kept
 pub mod Match
 pub mod Letters
 pub mod Run
+pub mod Swap

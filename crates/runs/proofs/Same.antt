@@ -1,0 +1,175 @@
+-- Histories that show the same trains, clock, arm and command: every list of steps from there on gets the same numbers and commands, and leads to such
+-- histories again; and so for the bench as built. Assumes nothing.
+use Prim.Native.Nat.{ℕ, zero, suc, _+_}
+use mathlib.Core.Path.{_≡_, refl, sym, _∙_, ap, ap₂}
+use mathlib.Core.Bool.{Bool, true, false, not, _&&_, false≢true}
+use mathlib.Core.List.{List, [], _∷_}
+use lib.Dec.{leb}
+use Rattle.settings.specs.declared.Settings.{Settings}
+use Rattle.arm.specs.declared.Command.{Command}
+use Rattle.arm.specs.declared.Command.the-variants.{Up, Down}
+use Rattle.bench.specs.declared.Bench.{Bench}
+use Rattle.bench.specs.declared.Event.{Event}
+use Rattle.bench.specs.declared.Event.the-variants as events
+use Rattle.bench.specs.Bench.{freshBench}
+use Rattle.cabinet.specs.declared.Order.{Order}
+use Rattle.cabinet.specs.declared.Answer.{Answer}
+use Rattle.runs.specs.declared.Step.{Step}
+use Rattle.runs.specs.declared.Step.the-variants.{Approach, Occupy, Leave, Clock}
+use Rattle.runs.specs.History.{History, instant, arm, Place, away, coming, inside, place, isAway, isComing, since, dueAt, latestAt, someTrain, someDue, someLate, lowering, raising, look, command, stepRefusal, keep, after, given, orderAt, history, stepRefusals, orders}
+use Rattle.runs.specs.Steps.{answersTo, benchStepped, benchAfter, benchAnswers}
+use Rattle.runs.specs.Demand.{answerOf, standingFrom}
+use Rattle.runs.specs.Match.{Valid, Match}
+use Rattle.runs.specs.Letters.{eventStep}
+use Rattle.runs.specs.Swap.{SameTrain, SameMoment, SameBench}
+use Rattle.runs.proofs.Rules.{some-true, some-present}
+use Rattle.runs.proofs.Invariants.{valid-after}
+use Rattle.runs.proofs.Agreement.{step-stands, agrees}
+use Rattle.runs.proofs.Events.{event-instant, event-arm, event-alike, event-number}
+
+-- ---- histories that show the same trains
+
+-- a test of a train by where it is and since when, which no train passes that is away
+module _ (test : Place → ℕ → Bool) (present : (p : Place) (a : ℕ) → test p a ≡ true → isAway p ≡ false) where
+  some-same : (h g : History) → ((n : ℕ) → SameTrain n h g) →
+      someTrain h (λ n. test (place n h) (since n h)) ≡ someTrain g (λ n. test (place n g) (since n g))
+  some-same h g trains = go (someTrain h (by h)) (someTrain g (by g)) refl refl
+    where
+      by : History → ℕ → Bool
+      by h n = test (place n h) (since n h)
+
+      found : (h g : History) → ((n : ℕ) → by h n ≡ by g n) → someTrain h (by h) ≡ true → someTrain g (by g) ≡ true
+      found h g same e = let w = some-true (by h) h e in let q = sym (same (w .0)) ∙ w .1 in some-present (by g) (w .0) q g (present _ _ q)
+
+      same : (n : ℕ) → by h n ≡ by g n
+      same n = ap₂ test (trains n .0) (trains n .1)
+
+      go : (a b : Bool) → someTrain h (by h) ≡ a → someTrain g (by g) ≡ b → a ≡ b
+      go true true p q = refl
+      go true false p q = sym (found h g same p) ∙ q
+      go false true p q = sym p ∙ found g h (λ n. sym (same n)) q
+      go false false p q = refl
+
+module _ (s : Settings) where
+  -- the looks over two such histories are the same
+  module _ (h g : History) (trains : (n : ℕ) → SameTrain n h g) where
+    due-same : (t : ℕ) → someDue s h t ≡ someDue s g t
+    unfolding dueAt
+    due-same t = some-same (λ p a. not (isAway p) && leb (a + s .earliest) t) present h g trains
+      where
+        present : (p : Place) (a : ℕ) → (not (isAway p) && leb (a + s .earliest) t) ≡ true → isAway p ≡ false
+        present away a e = absurd (false≢true e)
+        present coming a e = refl
+        present inside a e = refl
+
+    late-same : instant h ≡ instant g → someLate s h ≡ someLate s g
+    unfolding latestAt
+    late-same e = rw e (some-same (λ p a. isComing p && leb (a + s .latest) (instant g)) present h g trains)
+      where
+        present : (p : Place) (a : ℕ) → (isComing p && leb (a + s .latest) (instant g)) ≡ true → isAway p ≡ false
+        present away a e = absurd (false≢true e)
+        present coming a e = refl
+        present inside a e = refl
+
+    pub look-same : instant h ≡ instant g → (k : Command) → look s h k ≡ look s g k
+    look-same e Up = rw (due-same (lowering s h), e)
+    look-same e Down = rw (due-same (raising s h), e)
+
+  -- ---- the rest of the list
+
+  module _ {h g : History} (same : SameMoment s h g) where
+    -- a step gets the same number
+    pub number-same : (x : Step) → stepRefusal s h x ≡ stepRefusal s g x
+    unfolding stepRefusal
+    number-same (Approach n) = event-number s events.Approach n h g (same .instant) (same .trains n)
+    number-same (Occupy n) = event-number s events.Occupy n h g (same .instant) (same .trains n)
+    number-same (Leave n) = event-number s events.Leave n h g (same .instant) (same .trains n)
+    number-same (Clock r) = rw (late-same h g (same .trains) (same .instant), same .instant, same .command, same .arm)
+
+    -- and, accepted, leaves all the same: an event, if it leaves the command so
+    event-same : (e : Event) (n : ℕ) →
+        (((k : ℕ) → SameTrain k (eventStep e n ∷ h) (eventStep e n ∷ g)) → instant (eventStep e n ∷ h) ≡ instant (eventStep e n ∷ g) →
+        command s (eventStep e n ∷ h) ≡ command s (eventStep e n ∷ g)) →
+        SameMoment s (eventStep e n ∷ h) (eventStep e n ∷ g)
+    event-same e n commands =
+        let trains : (k : ℕ) → SameTrain k (eventStep e n ∷ h) (eventStep e n ∷ g) = λ k. event-alike e n h g (same .instant) k (same .trains k) in
+        let i = event-instant e n h ∙ same .instant ∙ sym (event-instant e n g) in
+        record {
+          instant = i;
+          arm = event-arm e n h .0 ∙ same .arm ∙ sym (event-arm e n g .0);
+          previous = event-arm e n h .1 ∙ same .previous ∙ sym (event-arm e n g .1);
+          command = commands trains i;
+          trains = trains;
+        }
+
+    -- the command after a step that the cabinet hears
+    heard-same : (x : Step) → ((k : ℕ) → SameTrain k (x ∷ h) (x ∷ g)) → instant (x ∷ h) ≡ instant (x ∷ g) →
+        look s (x ∷ h) (command s h) ≡ look s (x ∷ g) (command s g)
+    heard-same x trains i = look-same (x ∷ h) (x ∷ g) trains i (command s h) ∙ ap (look s (x ∷ g)) (same .command)
+
+    step-same : (x : Step) → SameMoment s (x ∷ h) (x ∷ g)
+    unfolding command
+    step-same (Approach n) = event-same events.Approach n (heard-same (Approach n))
+    step-same (Occupy n) = event-same events.Occupy n (λ trains i. same .command)
+    step-same (Leave n) = event-same events.Leave n (heard-same (Leave n))
+    step-same (Clock r) = record {
+      instant = ap suc (same .instant);
+      arm = refl;
+      previous = same .arm;
+      command = heard-same (Clock r) (same .trains) (ap suc (same .instant));
+      trains = same .trains;
+    }
+
+    -- accepted or refused
+    pub after-same : (x : Step) → SameMoment s (after s h x) (after s g x)
+    after-same x = rw (number-same x) (go (stepRefusal s g x))
+      where
+        go : (k : ℕ) → SameMoment s (keep k x h) (keep k x g)
+        go zero = step-same x
+        go (suc k) = same
+
+    pub order-same : (x : Step) → orderAt s h x ≡ orderAt s g x
+    order-same x = ap₂ given (same .command) (after-same x .command)
+
+  -- ---- lists
+
+  pub history-same : (xs : List Step) {h g : History} → SameMoment s h g → SameMoment s (history s h xs) (history s g xs)
+  unfolding history
+  history-same [] same = same
+  history-same (x ∷ xs) same = history-same xs (after-same same x)
+
+  pub numbers-same : (xs : List Step) {h g : History} → SameMoment s h g → stepRefusals s h xs ≡ stepRefusals s g xs
+  unfolding stepRefusals
+  numbers-same [] same = refl
+  numbers-same (x ∷ xs) same = ap₂ (λ (k : ℕ) (l : List ℕ). k ∷ l) (number-same same x) (numbers-same xs (after-same same x))
+
+  pub orders-same : (xs : List Step) {h g : History} → SameMoment s h g → orders s h xs ≡ orders s g xs
+  unfolding orders
+  orders-same [] same = refl
+  orders-same (x ∷ xs) same = ap₂ (λ (o : Order) (l : List Order). o ∷ l) (order-same same x) (orders-same xs (after-same same x))
+
+  -- benches that are as the rules say of such histories answer alike
+  pub answers-same : (xs : List Step) (h g : History) (b c : Bench) → Valid s h → Valid s g → Match s h b → Match s g c → SameMoment s h g →
+      benchAnswers b xs ≡ benchAnswers c xs
+  unfolding answersTo
+  answers-same [] h g b c v w p q same = refl
+  answers-same (x ∷ xs) h g b c v w p q same =
+      let y = step-stands s h b p v x in
+      let z = step-stands s g c q w x in
+      ap₂ (λ (a : Answer) (l : List Answer). a ∷ l) (y .answer ∙ ap₂ answerOf (number-same same x) (order-same same x) ∙ sym (z .answer))
+      (answers-same xs (after s h x) (after s g x) (benchStepped b x .bench) (benchStepped c x .bench)
+      (valid-after s h x v) (valid-after s g x w) (y .match) (z .match) (after-same same x))
+
+  -- and are alike
+  pub bench-same : (xs ys : List Step) → SameMoment s (history s [] xs) (history s [] ys) →
+      SameBench (benchAfter (freshBench s) xs) (benchAfter (freshBench s) ys)
+  bench-same xs ys same =
+      let p = agrees s xs in
+      let q = agrees s ys in
+      record {
+        instant = p .now ∙ same .instant ∙ sym (q .now);
+        arm = p .angle ∙ same .arm ∙ sym (q .angle);
+        previous = p .previous ∙ same .previous ∙ sym (q .previous);
+        command = p .order ∙ same .command ∙ sym (q .order);
+        trains = λ n. p .standings n ∙ ap₂ standingFrom (same .trains n .0) (same .trains n .1) ∙ sym (q .standings n);
+      }
