@@ -4,6 +4,7 @@ ghost use Prim.Native.Nat.{_≤_};
 ghost use lib.ListN.{length};
 ghost use Rattle.runs.specs.declared.Kind.the-variants.{OfBench};
 ghost use Rattle.runs.specs.Run.{stepsOf, over, runRefusal, Ran};
+ghost use Rattle.alone.specs.Alone.{heardOf, aloneRefusal};
 ghost use Rattle.recording.specs.RunRecorded.{recordRefusal};
 ghost use Rattle.recorder.specs.Text.{current};
 ghost use Rattle.reader.specs.Read.{readText};
@@ -11,7 +12,7 @@ ghost use Rattle.stretches.specs.declared.Sort.the-variants.{Lowered, Occupied}
 ghost use Rattle.stretches.specs.Walk.{startCursor, nothingFrom, stretchesAhead};
 ghost use Rattle.stretches.specs.Figures.{total};
 ghost use Rattle.report.specs.Report.{reportOf};
-ghost use Rattle.exports.specs.Exports.{settingsOf, Answered, shownRefusal, RecordAnswered, packed, Reports};
+ghost use Rattle.exports.specs.Exports.{settingsOf, Answered, shownRefusal, CabinetAnswered, RecordAnswered, packed, Reports};
 ghost use Rattle.exports.specs.State.{commandNumber, standingNumber, benchNumbers, stateRefusal, StateAnswered};
 ghost use Rattle.exports.specs.Look.{poseNumbers, posed, gateNumber, looks, lookRefusal, LookAnswered};
 ghost use Rattle.exports.specs.Places.{cursorOf, cursorIn, flag, foundNumber, nextNumbers, nextFrom, Placed};
@@ -250,6 +251,33 @@ pub extern "C" fn weqhaso_look(
         write_look(r.bench, pose, look);
     }
     k
+}
+
+// A cabinet alone under the settings, taken through a list of what it hears (`alone::run`): the refusal number of the whole, 0 where it is
+// taken; each answer's refusal number and command are written beside it.
+#[no_mangle]
+pub extern "C" fn weqhaso_cabinet(
+    e: u32,
+    f: u32,
+    p: u32,
+    q: u32,
+    w: u32,
+    x: u32,
+    y: u32,
+    letters: &[u8],
+    numbers: &[u32],
+    answers: &mut [u8],
+    orders: &mut [u8],
+) -> u8
+    ensures { λ r. ⌜ CabinetAnswered (settingsOf e f p q w x y) (heardOf (now (letters .entry)) (now (numbers .entry)))
+        (aloneRefusal (settingsOf e f p q w x y) (now (letters .entry)) (length (now (numbers .entry)))
+        (length (now (answers .entry))) (length (now (orders .entry))))
+        r (now (answers .entry)) (now (answers .exit)) (now (orders .entry)) (now (orders .exit)) ⌝ }
+{
+    let s = settings_of(e, f, p, q, w, x, y);
+    let r = alone::run(s, letters, numbers, answers, orders);
+    let v = r.verdict;
+    settings::number(v)
 }
 
 // A recorder under the settings, taken through a list of steps in the lent record (`recording::record_run`): 256 times the bytes of the
