@@ -13,8 +13,9 @@
 // `weqhaso_read`: number and line; and through `weqhaso_report`, into buffers just long enough, one byte shorter, and longer:
 // every byte, and how many are used. Long records about the longest text that is reported, 65,535 bytes. The stretches of
 // these records and of some that are several times as long, one by one through `weqhaso_start`, `weqhaso_next_lowered` and
-// `weqhaso_next_occupied`, and the instants of `weqhaso_below`. Ten million clock steps, up to the last instant. A mismatch
-// prints the input that shows it.
+// `weqhaso_next_occupied`, and the instants of `weqhaso_below`. Lists of what a cabinet alone hears through `weqhaso_cabinet`:
+// every answer, every command, and the places beyond the list. Ten million clock steps, up to the last instant, of the bench
+// and of a cabinet alone. A mismatch prints the input that shows it.
 //
 // The library keeps two trains beside its table, the soonest due one and the coming one that is first at its latest; the second
 // program looks through the whole table each time. So there are also lists made for these two trains to change hands at nearly
@@ -26,8 +27,8 @@ mod second;
 
 use second::{
     angles_of, check, lowered_runs, occupied_stretches, read, record_line, record_of, report,
-    report_into, ticks_for, Bench, Gate, Recorder, Standing, Stretch, FULL, K, LAST_INSTANT,
-    LAST_LINE, LINE_BYTES, LONGEST_TEXT,
+    report_into, ticks_for, Bench, Cabinet, Gate, Recorder, Standing, Stretch, FULL, K,
+    LAST_INSTANT, LAST_LINE, LINE_BYTES, LONGEST_TEXT,
 };
 
 extern "C" {
@@ -94,6 +95,23 @@ extern "C" {
         look: *mut u32,
         look_len: usize,
     ) -> u8;
+    fn weqhaso_cabinet(
+        e: u32,
+        f: u32,
+        p: u32,
+        q: u32,
+        w: u32,
+        x: u32,
+        y: u32,
+        letters: *const u8,
+        letters_len: usize,
+        numbers: *const u32,
+        numbers_len: usize,
+        answers: *mut u8,
+        answers_len: usize,
+        orders: *mut u8,
+        orders_len: usize,
+    ) -> u8;
     fn weqhaso_record(
         e: u32,
         f: u32,
@@ -139,8 +157,13 @@ const LONG_TEXTS: u32 = 60;
 const LONGER_TEXTS: u32 = 40;
 const HAND_LISTS: u32 = 1_500;
 const FULL_YARDS: u32 = 100;
+const HEARD_LISTS: u32 = 3_000;
 const WHOLE: u64 = 99;
 const UNTOUCHED: u8 = 99;
+
+// Bytes that stand for no step, and such as a cabinet does not hear.
+const NO_STEP: &[u8] = b"DUS aolt\0\xff";
+const NOT_HEARD: &[u8] = b"OOODUS alt\0\xff";
 
 // A small generator of numbers (xorshift).
 struct Random(u64);
@@ -384,7 +407,7 @@ fn same_run(r: &mut Random, s: &[u32; 7], list: &List) -> bool {
     same
 }
 
-// What is lent to a run of a list, and what is wanted of it. Spoiled 0, a letter stands for no step; 1 to 4, a slice is one place
+// What is lent to a run of a list, and what is wanted of it. Spoiled 0, a letter is foreign to the list; 1 to 4, a slice is one place
 // too short; without space for what is written after the run, 14.
 struct Lent {
     letters: Vec<u8>,
@@ -398,12 +421,19 @@ struct Lent {
 }
 
 impl Lent {
-    fn new(r: &mut Random, s: &[u32; 7], list: &List, spoiled: u64, space: bool) -> Lent {
+    fn new(
+        r: &mut Random,
+        s: &[u32; 7],
+        list: &List,
+        foreign: &[u8],
+        spoiled: u64,
+        space: bool,
+    ) -> Lent {
         let n = list.letters.len();
         let short = |k| n - (spoiled == k) as usize;
         let mut letters = list.letters.clone();
         if spoiled == 0 {
-            letters[r.below(n as u64) as usize] = r.one_of(b"DUS aolt\0\xff");
+            letters[r.below(n as u64) as usize] = r.one_of(foreign);
         }
         let answers = vec![UNTOUCHED; short(3) + r.below(3) as usize * (spoiled > 3) as usize];
         let orders = vec![UNTOUCHED; short(4) + r.below(3) as usize * (spoiled > 4) as usize];
@@ -501,10 +531,116 @@ impl Lent {
     }
 }
 
+// What a cabinet alone hears, with what the second program's answers: trains that are present and others, any number.
+fn hearing(r: &mut Random, s: &[u32; 7]) -> List {
+    let mut list = List::default();
+    let Ok(mut c) = Cabinet::new(s) else {
+        list.add('T', 0, 0.0, 0, Ok(' '));
+        return list;
+    };
+    let many = r.one_of(&[1, 2, 3, 8, 96]);
+    let quiet = r.one_of(&[3, 6, 12]);
+    for _ in 0..1 + r.below(150) {
+        let letter = r.one_of(&['A', 'A', 'L', 'T', 'T', 'T', 'T', 'T']);
+        let stands = |n: u32| c.present[n as usize - 1].is_some() == (letter == 'L');
+        let able: Vec<u32> = (1..=96).filter(|n| stands(*n)).collect();
+        let n = match r.below(20) {
+            0 => 0,
+            1 => 97,
+            2 => r.next() as u32,
+            3..=13 if !able.is_empty() => able[r.below(able.len().min(many) as u64) as usize],
+            _ => 1 + r.below(many as u64) as u32,
+        };
+        match letter {
+            'A' => list.add('A', n, 0.0, n, c.approach(n)),
+            'L' => list.add('L', n, 0.0, n, c.leave(n)),
+            _ => {
+                for _ in 0..1 + r.below(quiet) {
+                    list.add('T', r.next() as u32, 0.0, 0, c.clock());
+                }
+            }
+        }
+    }
+    list
+}
+
+// The library's cabinet alone, taken through a list.
+fn run_cabinet(
+    s: &[u32; 7],
+    letters: &[u8],
+    numbers: &[u32],
+    answers: &mut [u8],
+    orders: &mut [u8],
+) -> u8 {
+    unsafe {
+        weqhaso_cabinet(
+            s[0],
+            s[1],
+            s[2],
+            s[3],
+            s[4],
+            s[5],
+            s[6],
+            letters.as_ptr(),
+            letters.len(),
+            numbers.as_ptr(),
+            numbers.len(),
+            answers.as_mut_ptr(),
+            answers.len(),
+            orders.as_mut_ptr(),
+            orders.len(),
+        )
+    }
+}
+
+// Whether it answers the list as the second program's does, and leaves all other places.
+fn same_heard(r: &mut Random, s: &[u32; 7], list: &List, spoiled: u64) -> bool {
+    let mut lent = Lent::new(r, s, list, NOT_HEARD, spoiled, true);
+    let got = run_cabinet(
+        s,
+        &lent.letters,
+        &lent.numbers,
+        &mut lent.answers,
+        &mut lent.orders,
+    );
+    lent.same(s, list, got)
+}
+
+// How often the cabinet alone lowered, raised, and refused with 5, 6 and 9.
+#[derive(Default, Debug)]
+struct Given {
+    lowers: u32,
+    raises: u32,
+    refused: [u32; 3],
+}
+
+impl Given {
+    fn count(&mut self, list: &List) {
+        let many = |bytes: &[u8], b: u8| bytes.iter().filter(|x| **x == b).count() as u32;
+        self.lowers += many(&list.orders, b'D');
+        self.raises += many(&list.orders, b'U');
+        for (i, k) in [5, 6, 9].into_iter().enumerate() {
+            self.refused[i] += many(&list.answers, k);
+        }
+    }
+
+    fn check_enough(&self) {
+        assert!(self.lowers >= 1_000 && self.raises >= 1_000, "{self:?}");
+        assert!(self.refused.iter().all(|n| *n >= 1_000), "{self:?}");
+    }
+}
+
+// A list of what a cabinet alone hears, its buffers longer, just long enough, too short, and with a foreign letter: how many differ.
+fn heard_differs(r: &mut Random, s: &[u32; 7], list: &List) -> u32 {
+    let spoiled = [WHOLE, 5, 0, 1, 3, 4];
+    let differ = spoiled.into_iter().filter(|k| !same_heard(r, s, list, *k));
+    differ.count() as u32
+}
+
 // Whether the library leaves the bench after the list as the second program does, with the same answers and commands, and leaves
 // all other places.
 fn same_state(r: &mut Random, s: &[u32; 7], list: &List, spoiled: u64, places: usize) -> bool {
-    let mut lent = Lent::new(r, s, list, spoiled, places >= 196);
+    let mut lent = Lent::new(r, s, list, NO_STEP, spoiled, places >= 196);
     let mut state: Vec<u32> = (0..places).map(|_| r.next() as u32).collect();
     let mut want_state = state.clone();
     if lent.want == 0 {
@@ -522,7 +658,14 @@ fn same_state(r: &mut Random, s: &[u32; 7], list: &List, spoiled: u64, places: u
 // Whether the bench after the list shows what the second program's shows: pose, gate and trains present, with the same answers
 // and commands; and the library leaves all other places.
 fn same_look(r: &mut Random, s: &[u32; 7], list: &List, spoiled: u64, places: [usize; 2]) -> bool {
-    let mut lent = Lent::new(r, s, list, spoiled, places[0] >= 2 && places[1] >= 2);
+    let mut lent = Lent::new(
+        r,
+        s,
+        list,
+        NO_STEP,
+        spoiled,
+        places[0] >= 2 && places[1] >= 2,
+    );
     // no NaN, whose bits need not survive a copy
     let mut pose: Vec<f32> = (0..places[0]).map(|_| r.below(9_999) as f32).collect();
     let mut look: Vec<u32> = (0..places[1]).map(|_| r.next() as u32).collect();
@@ -542,11 +685,13 @@ fn same_look(r: &mut Random, s: &[u32; 7], list: &List, spoiled: u64, places: [u
 }
 
 // Whether the library answers clock steps with the arm at 90 degrees, one more than there are instants, as the second program
-// does: 10 at the last of them.
+// does: 10 at the last of them; and its cabinet alone in the same way.
 fn same_clock(s: &[u32; 7]) -> bool {
     let n = LAST_INSTANT as usize + 1;
     let mut b = Bench::new(s).unwrap();
+    let mut c = Cabinet::new(s).unwrap();
     let want: Vec<u8> = (0..n).map(|_| b.clock(90.0).err().unwrap_or(0)).collect();
+    let alone = (0..n).all(|i| c.clock().err().unwrap_or(0) == want[i]);
     let list = List {
         letters: vec![b'T'; n],
         numbers: vec![0; n],
@@ -555,12 +700,22 @@ fn same_clock(s: &[u32; 7]) -> bool {
     };
     let (mut answers, mut orders) = (vec![UNTOUCHED; n], vec![UNTOUCHED; n]);
     let got = run(s, &list, &mut answers, &mut orders);
-    let same = got == 0 && want[n - 1] == 10 && answers == want && orders.iter().all(|o| *o == 0);
-    if !same {
+    let same = |got: u8, answers: &[u8], orders: &[u8]| {
+        got == 0 && want[n - 1] == 10 && answers == want && orders.iter().all(|o| *o == 0)
+    };
+    if !same(got, &answers, &orders) {
         let at = (0..n).find(|i| answers[*i] != want[*i] || orders[*i] != 0);
         println!("settings {s:?}: {got} got; of {n} clock steps at 90 degrees the first that differs is {at:?}");
+        return false;
     }
-    same
+    answers.fill(UNTOUCHED);
+    orders.fill(UNTOUCHED);
+    let got = run_cabinet(s, &list.letters, &list.numbers, &mut answers, &mut orders);
+    let heard = alone && same(got, &answers, &orders);
+    if !heard {
+        println!("settings {s:?}: {got} got of a cabinet alone; its {n} clock steps differ");
+    }
+    heard
 }
 
 // What the second program records of the list: each step's answer and the bytes used, or the refusal of the start.
@@ -617,7 +772,7 @@ fn same_record(r: &mut Random, s: &[u32; 7], list: &List, bytes: usize) -> bool 
     let short = |k| n - (spoiled == k) as usize;
     let mut letters = list.letters.clone();
     if spoiled == 0 {
-        letters[r.below(n as u64) as usize] = r.one_of(b"DUS aolt\0\xff");
+        letters[r.below(n as u64) as usize] = r.one_of(NO_STEP);
     }
     let numbers = &list.numbers[..short(1)];
     let readings = &list.readings[..short(2)];
@@ -1240,7 +1395,7 @@ fn same_swapped(r: &mut Random, s: &[u32; 7], list: &List, i: usize, swaps: &mut
     };
     let mut got = Vec::new();
     for each in [list, &swapped] {
-        let mut lent = Lent::new(r, s, each, WHOLE, true);
+        let mut lent = Lent::new(r, s, each, NO_STEP, WHOLE, true);
         let mut state = vec![0; 196];
         let number = lent.run_to_state(s, &mut state);
         if !lent.same(s, each, number) || state != each.state {
@@ -1292,6 +1447,7 @@ fn main() {
     let mut h = Random(0xbb67_ae85_84ca_a73b);
     let mut l = Random(0x3c6e_f372_fe94_f82b);
     let mut v = Random(0xa54f_f53a_5f1d_36f1);
+    let mut c = Random(0x510e_527f_ade6_82d1);
     let (mut looks, mut swaps) = (0, Swaps::default());
     let (mut tried, mut states, mut records, mut texts, mut differ) = (0, 0, 0, 0, 0);
     while tried < STEPS {
@@ -1368,18 +1524,27 @@ fn main() {
         differ += !same_look(&mut l, &s, &list, WHOLE, [2, 2]) as u32;
         differ += swapped_differ(&mut v, &s, &list, &mut swaps);
     }
+    let (mut heard, mut given) = (0, Given::default());
+    for _ in 0..HEARD_LISTS {
+        let s = settings(&mut c);
+        let list = hearing(&mut c, &s);
+        heard += list.letters.len();
+        given.count(&list);
+        differ += heard_differs(&mut c, &s, &list);
+    }
     if differ == 0 {
         hands.check_enough();
         swaps.check_enough();
+        given.check_enough();
     }
     let lists = HAND_LISTS + FULL_YARDS;
-    tried += LAST_INSTANT as u64 + 1;
+    tried += 2 * (LAST_INSTANT as u64 + 1);
     differ += !same_clock(&K) as u32;
     let reports = 3 * texts;
     let (swapped, sorts) = (swaps.all(), swaps.tried);
     let (other_train, other_place) = (swaps.other_train, swaps.other_place);
     println!(
-        "{tried} steps, {states} final states, {looks} looks, {swapped} swapped neighbours (AA, AO, OO, LO, LL: {sorts:?}; the raise {other_train} times with the other train's leave, {other_place} times at the other place), {records} recordings, {texts} texts (the longest has {longest} bytes) with their stretches and {reports} reports, {lists} lists in which the kept trains change hands, {differ} differ"
+        "{tried} steps, {states} final states, {looks} looks, {swapped} swapped neighbours (AA, AO, OO, LO, LL: {sorts:?}; the raise {other_train} times with the other train's leave, {other_place} times at the other place), {HEARD_LISTS} lists of {heard} steps that a cabinet alone hears, {records} recordings, {texts} texts (the longest has {longest} bytes) with their stretches and {reports} reports, {lists} lists in which the kept trains change hands, {differ} differ"
     );
     std::process::exit((differ > 0) as i32);
 }
