@@ -56,7 +56,8 @@ heard-steps c letter.None n h = absurd (false≢true h)
 abbrev pub heardFrom : List ℕ → List ℕ → ℕ → List Heard
 heardFrom ls ns i = heardOf (drop i ls) (drop i ns)
 
-heard-next : (ls ns : List ℕ) (i : ℕ) → i < length ls → i < length ns → heardFrom ls ns i ≡ withHeard (letterOf (getD ls i 0)) (getD ns i 0) (heardFrom ls ns (i + 1))
+heard-next : (ls ns : List ℕ) (i : ℕ) → i < length ls → i < length ns →
+    heardFrom ls ns i ≡ withHeard (letterOf (getD ls i 0)) (getD ns i 0) (heardFrom ls ns (i + 1))
 unfolding heardOf
 heard-next ls ns i a b = rw (add-one, drop-cons ls i 0 a, drop-cons ns i 0 b)
 
@@ -71,18 +72,28 @@ pub record Hearing (ls ns answers₀ orders₀ : List ℕ) (first : Cabinet) (an
   pub went : Went (length ls) (heardFrom ls ns) cabinetNext cabinetAnswer answers₀ orders₀ first answers orders c i
 
 pub hearing-start : (ls ns answers₀ orders₀ : List ℕ) (first : Cabinet) → Hearing ls ns answers₀ orders₀ first answers₀ orders₀ first 0
-hearing-start ls ns answers₀ orders₀ first = record { went = went-start (length ls) (heardFrom ls ns) cabinetNext cabinetAnswer answers₀ orders₀ first }
+hearing-start ls ns answers₀ orders₀ first =
+    record { went = went-start (length ls) (heardFrom ls ns) cabinetNext cabinetAnswer answers₀ orders₀ first }
 
-module _ {ls ns answers₀ orders₀ : List ℕ} {first : Cabinet} (long : Beside OfCabinet ls (length ns) (length ns) (length answers₀) (length orders₀))
+module _ {ls ns answers₀ orders₀ : List ℕ} {first : Cabinet}
+    (long : Beside OfCabinet ls (length ns) (length ns) (length answers₀) (length orders₀))
     {answers orders : List ℕ} {c : Cabinet} {i : ℕ} (t : Hearing ls ns answers₀ orders₀ first answers orders c i) where
   -- a turn: the letter as read, and what the cabinet makes of it
   pub hearing-next : i < length ls → {w : Letter} → w ≡ letterOf (getD ls i 0) → {m : Stepped} → m ≡ heardStep c w (getD ns i 0) →
-      {u v : ℕ} → u ≡ numberOf (m .answer) → v ≡ answerByte (m .answer) → Hearing ls ns answers₀ orders₀ first (set answers i u) (set orders i v) (m .cabinet) (i + 1)
+      {u v : ℕ} → u ≡ numberOf (m .answer) → v ≡ answerByte (m .answer) →
+      Hearing ls ns answers₀ orders₀ first (set answers i u) (set orders i v) (m .cabinet) (i + 1)
   hearing-next less {w} is {m} e p q =
       let heard : isHeard w ≡ true = ap isHeard is ∙ letter-at OfCabinet ls i (long .belong) less in
       let step : m ≡ cabinetStepped c (heardAs w (getD ns i 0)) = e ∙ heard-steps c w (getD ns i 0) heard in
-      let rest = heard-next ls ns i less (omega (arith, long .byNumbers)) ∙ ap (λ (x : Letter). withHeard x (getD ns i 0) (heardFrom ls ns (i + 1))) (sym is) ∙ heard-with w (getD ns i 0) _ heard in
-      record { went = went-next (t .went) (long .byAnswers) (long .byOrders) less rest (ap (λ (g : Stepped). g .cabinet) step) (rw step at p) (rw step at q) }
+      let rest =
+      heard-next ls ns i less (omega (arith, long .byNumbers))
+      ∙ ap (λ (x : Letter). withHeard x (getD ns i 0) (heardFrom ls ns (i + 1))) (sym is)
+      ∙ heard-with w (getD ns i 0) _ heard
+      in
+      record {
+        went = went-next (t .went) (long .byAnswers) (long .byOrders) less rest
+            (ap (λ (g : Stepped). g .cabinet) step) (rw step at p) (rw step at q);
+      }
 
   pub hearing-end : length ls ≤ i → WentThrough cabinetNext cabinetAnswer first (heardOf ls ns) c answers₀ answers orders₀ orders
   hearing-end h = went-end (t .went) (long .byAnswers) (long .byOrders) (heard-end ls ns i h)
@@ -98,7 +109,11 @@ pub alone-taken : (s : Settings) (xs : List Heard) (k : ℕ) (r : Cabinet) (answ
     WentThrough cabinetNext cabinetAnswer (freshCabinet s) xs r answers answersAfter orders ordersAfter →
     AloneRan s xs k (record { verdict = Taken; cabinet = r }) answers answersAfter orders ordersAfter
 alone-taken s xs k r answers answersAfter orders ordersAfter z w =
-    rw z (record { ended = ap (λ (c : Cabinet). record { verdict = Taken; cabinet = c }) (w .state); written = record { answered = w .answered; ordered = w .ordered } })
+    rw z
+    (record {
+      ended = ap (λ (c : Cabinet). record { verdict = Taken; cabinet = c }) (w .state);
+      written = record { answered = w .answered; ordered = w .ordered };
+    })
 
 -- refused, nothing is written
 pub alone-refused : (s : Settings) (xs : List Heard) (k : ℕ) (answers orders : List ℕ) → (k ≡ 0 → ⊥) →

@@ -1,6 +1,6 @@
--- A cabinet alone and a list of what it hears that lies in lent slices: what `run` writes and gives back (document 01, "Cabinet": it hears approach, leave and
--- clock, never occupy or the arm). Decides beyond it, as `runs::run` does: the letters are the record's, A, L and T; a list with any other letter is refused
--- as a whole, 15, and slices that are shorter than the letters, 14, after it. Assumes nothing.
+-- A cabinet alone and a list of what it hears that lies in lent slices: what `run` writes and gives back (document 01, "Cabinet": it hears
+-- approach, leave and clock, never occupy or the arm). Decides beyond it, as `runs::run` does: the letters are the record's, A, L and T; a list
+-- with any other letter is refused as a whole, 15, and slices that are shorter than the letters, 14, after it. Assumes nothing.
 use Prim.Native.Nat.{ℕ, zero, suc}
 use mathlib.Core.Path.{_≡_}
 use mathlib.Core.List.{List, [], _∷_, map}

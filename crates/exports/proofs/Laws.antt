@@ -44,8 +44,10 @@ answered-run s xs k r a b o p n ran e =
     }
 
 -- a cabinet's, in the same way
-pub answered-alone : (s : Settings) (xs : List Heard) (k : ℕ) (r : Ended) (a b o p : List ℕ) (n : ℕ) → AloneRan s xs k r a b o p → n ≡ numberOf (r .verdict) → CabinetAnswered s xs k n a b o p
-answered-alone s xs k r a b o p n ran e = record { number = e ∙ ap (λ (f : Ended). numberOf (f .verdict)) (ran .ended) ∙ go k; written = ran .written }
+pub answered-alone : (s : Settings) (xs : List Heard) (k : ℕ) (r : Ended) (a b o p : List ℕ) (n : ℕ) →
+    AloneRan s xs k r a b o p → n ≡ numberOf (r .verdict) → CabinetAnswered s xs k n a b o p
+answered-alone s xs k r a b o p n ran e =
+    record { number = e ∙ ap (λ (f : Ended). numberOf (f .verdict)) (ran .ended) ∙ go k; written = ran .written }
   where
     go : (k : ℕ) → numberOf (endedBy k s xs .verdict) ≡ k
     go zero = refl

@@ -1,4 +1,4 @@
--- A run after which something of the bench is written: `run_with`, what the number of its verdict says, and two values written. Assumes nothing.
+-- A run after which something of the bench is written: `run_with`, what its verdict's number says, and two values written. Assumes nothing.
 use Prim.Native.Nat.{ℕ, zero, suc, _≤_}
 use native.Mathlib.Omega.{arith}
 use mathlib.Core.Path.{_≡_, refl, sym, ap, _∙_}
@@ -23,30 +23,34 @@ use Rattle.exports.specs.Exports.{Answered, shownRefusal}
 use Rattle.exports.proofs.Laws.{answered-run}
 
 module _ (s : Settings) (letters : List ℕ) (numbers readings answers orders : ℕ) (space : Bool) where
-  -- as the code has it, from the run's own number
-  pub shown-by : {own k : ℕ} → own ≡ runRefusal OfBench s letters numbers readings answers orders → k ≡ orFull own space → k ≡ shownRefusal s letters numbers readings answers orders space
+  -- the number of the run, and that of the whole
+  abbrev own : ℕ
+  own = runRefusal OfBench s letters numbers readings answers orders
+
+  abbrev whole : ℕ
+  whole = shownRefusal s letters numbers readings answers orders space
+
+  -- as the code has it
+  pub shown-by : {n k : ℕ} → n ≡ own → k ≡ orFull n space → k ≡ whole
   unfolding shownRefusal
   shown-by p q = q ∙ ap (λ n. orFull n space) p
 
   -- nothing refuses it: nothing refuses the run, and there is space
-  passed : shownRefusal s letters numbers readings answers orders space ≡ 0 → (runRefusal OfBench s letters numbers readings answers orders ≡ 0) × (space ≡ true)
+  passed : whole ≡ 0 → (own ≡ 0) × (space ≡ true)
   unfolding shownRefusal
-  passed z =
-      let n = none-first (runRefusal OfBench s letters numbers readings answers orders) _ z in
-      (n .0, not-false _ (refuse-none (not space) 13 (n .1) .0))
+  passed z = let n = none-first own _ z in (n .0, not-false _ (refuse-none (not space) 13 (n .1) .0))
 
   module _ (xs : List Step) (r : Finished) (a b o p : List ℕ) where
     -- then it is the run
-    pub ran-with : shownRefusal s letters numbers readings answers orders space ≡ 0 → Ran s xs (runRefusal OfBench s letters numbers readings answers orders) r a b o p →
-        Ran s xs (shownRefusal s letters numbers readings answers orders space) r a b o p
+    pub ran-with : whole ≡ 0 → Ran s xs own r a b o p → Ran s xs whole r a b o p
     ran-with z ran = rw z (rw (passed z .0) at ran)
 
     -- its verdict has the number n
-    module _ (ran : Ran s xs (shownRefusal s letters numbers readings answers orders space) r a b o p) (n : ℕ) (e : n ≡ numberOf (r .verdict)) where
-      pub answered : Answered s xs (shownRefusal s letters numbers readings answers orders space) n a b o p
-      answered = answered-run s xs (shownRefusal s letters numbers readings answers orders space) r a b o p n ran e
+    module _ (ran : Ran s xs whole r a b o p) (n : ℕ) (e : n ≡ numberOf (r .verdict)) where
+      pub answered : Answered s xs whole n a b o p
+      answered = answered-run s xs whole r a b o p n ran e
 
-      none : n ≡ 0 → shownRefusal s letters numbers readings answers orders space ≡ 0
+      none : n ≡ 0 → whole ≡ 0
       none z = sym (answered .number) ∙ z
 
       -- taken, there is space
@@ -55,14 +59,14 @@ module _ (s : Settings) (letters : List ℕ) (numbers readings answers orders : 
 
       -- and what is written of its bench is written of the bench after the list
       pub shown : {A : Type 0} (values : Bench → List A) (old after : List A) → n ≡ 0 → after ≡ over (values (r .bench)) old →
-          after ≡ unlessRefused (shownRefusal s letters numbers readings answers orders space) (values (benchAfter (freshBench s) xs)) old
+          after ≡ unlessRefused whole (values (benchAfter (freshBench s) xs)) old
       shown values old after z w =
           let f : r ≡ finishedBy 0 s xs = rw (none z) at (ran .finished) in
           rw (none z) (w ∙ ap (λ (x : Finished). over (values (x .bench)) old) f)
 
       -- refused, nothing is
-      pub unshown : {A : Type 0} (new old : List A) → (n ≡ 0 → ⊥) → old ≡ unlessRefused (shownRefusal s letters numbers readings answers orders space) new old
-      unshown new old h = go (shownRefusal s letters numbers readings answers orders space) (λ z. h (answered .number ∙ z))
+      pub unshown : {A : Type 0} (new old : List A) → (n ≡ 0 → ⊥) → old ≡ unlessRefused whole new old
+      unshown new old h = go whole (λ z. h (answered .number ∙ z))
         where
           go : (k : ℕ) → (k ≡ 0 → ⊥) → old ≡ unlessRefused k new old
           go zero h = absurd (h refl)

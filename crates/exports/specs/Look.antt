@@ -1,5 +1,5 @@
--- What the bench after a list of steps shows: its pose in degrees; by numbers its gate, and how many trains are present (document 01, "Clock and arm" and
--- "Cabinet"). Decides beyond it: the gate's values are numbered as document 01 names them. Assumes nothing.
+-- What the bench after a list of steps shows: its pose in degrees; by numbers its gate, and how many trains are present (document 01,
+-- "Clock and arm" and "Cabinet"). Decides beyond it: the gate's values are numbered as document 01 names them. Assumes nothing.
 use Prim.Native.Nat.{ℕ}
 use mathlib.Core.Path.{_≡_}
 use mathlib.Core.Bool.{_&&_}
@@ -37,13 +37,14 @@ gateNumber (Rising angle) = 3
 abbrev pub looks : Bench → List ℕ
 looks b = gateNumber (gateOf (commandOf b) (armOf b)) ∷ presentIn (b .table) ∷ []
 
--- the number that refuses a run after which the bench is looked at: 14 where there are fewer than two places for the pose, or for the other two
+-- the number that refuses a run after which the bench is looked at: 14 where there are fewer than two places in either
 abbrev pub lookRefusal : Settings → List ℕ → ℕ → ℕ → ℕ → ℕ → ℕ → ℕ → ℕ
-lookRefusal s letters numbers readings answers orders pose look = shownRefusal s letters numbers readings answers orders (leb 2 pose && leb 2 look)
+lookRefusal s letters numbers readings answers orders pose look =
+    shownRefusal s letters numbers readings answers orders (leb 2 pose && leb 2 look)
 
 -- a run of a list xs with this refusal number, and what the bench after it shows written
-pub record LookAnswered (s : Settings) (xs : List Step) (k r : ℕ) (answers answersAfter orders ordersAfter : List ℕ) (pose poseAfter : List Float)
-    (look lookAfter : List ℕ) : Type 0 where
+pub record LookAnswered (s : Settings) (xs : List Step) (k r : ℕ) (answers answersAfter orders ordersAfter : List ℕ)
+    (pose poseAfter : List Float) (look lookAfter : List ℕ) : Type 0 where
   pub run : Answered s xs k r answers answersAfter orders ordersAfter
   pub shown : poseAfter ≡ unlessRefused k (posed (benchAfter (freshBench s) xs)) pose
   pub numbers : lookAfter ≡ unlessRefused k (looks (benchAfter (freshBench s) xs)) look

@@ -29,7 +29,9 @@ in-orders : (c : Turn) → c .before .loop .i < length (c .before .loop .orders)
 in-orders c = omega (arith, c .loop-test .taken, given c .pre .byOrders, c .before .loop .inv .went .ordered .written .same-length)
 
 loop-holds : tie.Need-loop-holds Inv-loop μ-loop
-loop-holds c = let a = c .before .before .before .before .args in hearing-start (a .letters .now) (a .numbers .now) (a .answers .now) (a .orders .now) (a .first)
+loop-holds c =
+    let a = c .before .before .before .before .args in
+    hearing-start (a .letters .now) (a .numbers .now) (a .answers .now) (a .orders .now) (a .first)
 
 shared-slice-read-letter-of : tie.Need-shared-slice-read-letter-of Inv-loop μ-loop
 shared-slice-read-letter-of c = search needs
@@ -68,7 +70,8 @@ loop-again : tie.Need-loop-again Inv-loop μ-loop
 loop-again c =
     let s = c .before in
     let t = s .before .before .before .before .before .before in
-    hearing-next (given t .pre) (t .before .loop .inv) (t .loop-test .taken) (s .before .before .before .before .letter-of .ensures) (s .before .before .hear .ensures) (s .before .number-byte .ensures) (s .order-byte .ensures)
+    hearing-next (given t .pre) (t .before .loop .inv) (t .loop-test .taken)
+    (s .before .before .before .before .letter-of .ensures) (s .before .before .hear .ensures) (s .before .number-byte .ensures) (s .order-byte .ensures)
 
 same-length : tie.Need-same-length Inv-loop μ-loop
 same-length c = search needs

@@ -18,7 +18,8 @@ go-through-requires : tie.Need-go-through-requires
 go-through-requires c κs =
     let k = c .before .before .before in
     let a = k .before .before .before .before .before .before .before .args in
-    run-beside OfCabinet (a .s) (a .letters .now) (length (a .numbers .now)) (length (a .numbers .now)) (length (a .answers .now)) (length (a .orders .now))
+    run-beside OfCabinet (a .s) (a .letters .now)
+    (length (a .numbers .now)) (length (a .numbers .now)) (length (a .answers .now)) (length (a .orders .now))
     (sym (k .run-refusal .ensures) ∙ c .before .before .if1 .taken)
 
 same-length : tie.Need-same-length
@@ -31,7 +32,8 @@ returns : tie.Need-returns
 returns c =
     let k = c .before .before .before .before .before .before .before .before in
     let a = k .before .before .before .before .before .before .before .args in
-    alone-taken (a .s) _ _ _ (a .answers .now) _ (a .orders .now) _ (sym (k .run-refusal .ensures) ∙ c .before .before .before .before .before .before .before .if1 .taken)
+    alone-taken (a .s) _ _ _ (a .answers .now) _ (a .orders .now) _
+    (sym (k .run-refusal .ensures) ∙ c .before .before .before .before .before .before .before .if1 .taken)
     (rw (started-fresh (a .s) _ (k .before .before .start .ensures)) at (c .before .before .before .before .go-through .ensures))
 
 returns-2 : tie.Need-returns-2

@@ -34,7 +34,8 @@ Asked = tie.After-or-full
 abbrev given : Asked → tie.Start
 given k = k .before .before .before .before .before .before .before
 
-refusal : (k : Asked) → k .or-full .result ≡ shownRefusal (given k .args .s) (given k .args .letters .now) (length (given k .args .numbers .now)) (length (given k .args .readings .now))
+refusal : (k : Asked) → k .or-full .result ≡
+    shownRefusal (given k .args .s) (given k .args .letters .now) (length (given k .args .numbers .now)) (length (given k .args .readings .now))
     (length (given k .args .answers .now)) (length (given k .args .orders .now)) (given k .args .space)
 refusal k = shown-by _ _ _ _ _ _ (given k .args .space) (k .before .run-refusal .ensures) (k .or-full .ensures)
 
@@ -47,7 +48,8 @@ returns-2 : tie.Need-returns-2
 returns-2 c =
     let k = c .before .before .before in
     let a = given k .args in
-    rw (← (refusal k), started-fresh (a .s) _ (c .before .start .ensures)) (run-refused (a .s) _ (k .or-full .result) (a .answers .now) (a .orders .now) (c .before .before .if1 .left))
+    rw (← (refusal k), started-fresh (a .s) _ (c .before .start .ensures))
+    (run-refused (a .s) _ (k .or-full .result) (a .answers .now) (a .orders .now) (c .before .before .if1 .left))
 
 pub run-with-spec : {M : Type 1} → statement M
 run-with-spec =

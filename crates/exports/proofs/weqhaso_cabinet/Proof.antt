@@ -21,7 +21,8 @@ same-length-2 c = search needs
 
 returns : tie.Need-returns
 returns c =
-    answered-alone _ _ _ _ _ _ _ _ _ (rw (c .before .before .before .before .before .before .before .before .settings-of .ensures) at (c .before .before .before .before .before .run .ensures)) (c .number .ensures)
+    answered-alone _ _ _ _ _ _ _ _ _
+    (rw (c .before .before .before .before .before .before .before .before .settings-of .ensures) at (c .before .before .before .before .before .run .ensures)) (c .number .ensures)
 
 pub weqhaso-cabinet-spec : {M : Type 1} → statement M
 weqhaso-cabinet-spec =

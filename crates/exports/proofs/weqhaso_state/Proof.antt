@@ -44,7 +44,8 @@ returns c =
     rw (← (n .before .before .before .before .before .before .before .before .settings-of .ensures))
     (record {
       run = answered _ _ _ _ _ _ _ _ _ _ _ _ _ ran _ (n .number .ensures);
-      numbers = shown _ _ _ _ _ _ _ _ _ _ _ _ _ ran _ (n .number .ensures) benchNumbers (given n .args .state .now) _ (c .before .before .before .before .if1 .taken) (c .before .before .write-bench .ensures);
+      numbers = shown _ _ _ _ _ _ _ _ _ _ _ _ _ ran _ (n .number .ensures) benchNumbers (given n .args .state .now) _
+          (c .before .before .before .before .if1 .taken) (c .before .before .write-bench .ensures);
     })
 
 same-length-4 : tie.Need-same-length-4
