@@ -5,17 +5,21 @@
 //
 // Random lists of steps (refused ones among them; sensible and absurd readings, as f32 bit patterns; 1 to 96 trains; settings
 // that are refused) through `weqhaso_run`: every answer, every command, and the places beyond the list. The same lists through
-// `weqhaso_state`, with enough places and too few: also the bench after the list. The same lists through `weqhaso_record`, into
-// records just long enough, one byte shorter, longer and of any length: every answer, every byte, and how many are used. Records
-// of the accepted steps, whole and damaged, through `weqhaso_read`: number and line; and through `weqhaso_report`, into buffers
-// just long enough, one byte shorter, and longer: every byte, and how many are used. Long records about the longest text that is
-// reported, 65,535 bytes. The stretches of these records and of some that are several times as long, one by one through
-// `weqhaso_start`, `weqhaso_next_lowered` and `weqhaso_next_occupied`, and the instants of `weqhaso_below`. Ten million clock
-// steps, up to the last instant. A mismatch prints the input that shows it.
+// `weqhaso_state`, with enough places and too few: also the bench after the list. The same lists through `weqhaso_look`, in
+// the same way: the pose by its bits, the gate and the trains present. The same lists with two neighbours swapped that are
+// accepted, about different trains, no clock steps, and not an approach and a leave: all but the place of a command between
+// the two stays. The same lists through `weqhaso_record`, into records just long enough, one byte shorter, longer and of any
+// length: every answer, every byte, and how many are used. Records of the accepted steps, whole and damaged, through
+// `weqhaso_read`: number and line; and through `weqhaso_report`, into buffers just long enough, one byte shorter, and longer:
+// every byte, and how many are used. Long records about the longest text that is reported, 65,535 bytes. The stretches of
+// these records and of some that are several times as long, one by one through `weqhaso_start`, `weqhaso_next_lowered` and
+// `weqhaso_next_occupied`, and the instants of `weqhaso_below`. Lists of what a cabinet alone hears through `weqhaso_cabinet`:
+// every answer, every command, and the places beyond the list. Ten million clock steps, up to the last instant, of the bench
+// and of a cabinet alone. A mismatch prints the input that shows it.
 //
 // The library keeps two trains beside its table, the soonest due one and the coming one that is first at its latest; the second
 // program looks through the whole table each time. So there are also lists made for these two trains to change hands at nearly
-// every step of a train, through all five functions, with a count of how often they do.
+// every step of a train, through all these functions, with a count of how often they do.
 
 #[allow(dead_code)]
 #[path = "../second/second.rs"]
@@ -23,8 +27,8 @@ mod second;
 
 use second::{
     angles_of, check, lowered_runs, occupied_stretches, read, record_line, record_of, report,
-    report_into, ticks_for, Bench, Recorder, Standing, Stretch, FULL, K, LAST_INSTANT, LAST_LINE,
-    LINE_BYTES, LONGEST_TEXT,
+    report_into, ticks_for, Bench, Cabinet, Gate, Recorder, Standing, Stretch, FULL, K,
+    LAST_INSTANT, LAST_LINE, LINE_BYTES, LONGEST_TEXT,
 };
 
 extern "C" {
@@ -67,6 +71,46 @@ extern "C" {
         orders_len: usize,
         state: *mut u32,
         state_len: usize,
+    ) -> u8;
+    fn weqhaso_look(
+        e: u32,
+        f: u32,
+        p: u32,
+        q: u32,
+        w: u32,
+        x: u32,
+        y: u32,
+        letters: *const u8,
+        letters_len: usize,
+        numbers: *const u32,
+        numbers_len: usize,
+        readings: *const f32,
+        readings_len: usize,
+        answers: *mut u8,
+        answers_len: usize,
+        orders: *mut u8,
+        orders_len: usize,
+        pose: *mut f32,
+        pose_len: usize,
+        look: *mut u32,
+        look_len: usize,
+    ) -> u8;
+    fn weqhaso_cabinet(
+        e: u32,
+        f: u32,
+        p: u32,
+        q: u32,
+        w: u32,
+        x: u32,
+        y: u32,
+        letters: *const u8,
+        letters_len: usize,
+        numbers: *const u32,
+        numbers_len: usize,
+        answers: *mut u8,
+        answers_len: usize,
+        orders: *mut u8,
+        orders_len: usize,
     ) -> u8;
     fn weqhaso_record(
         e: u32,
@@ -113,8 +157,13 @@ const LONG_TEXTS: u32 = 60;
 const LONGER_TEXTS: u32 = 40;
 const HAND_LISTS: u32 = 1_500;
 const FULL_YARDS: u32 = 100;
+const HEARD_LISTS: u32 = 3_000;
 const WHOLE: u64 = 99;
 const UNTOUCHED: u8 = 99;
+
+// Bytes that stand for no step, and such as a cabinet does not hear.
+const NO_STEP: &[u8] = b"DUS aolt\0\xff";
+const NOT_HEARD: &[u8] = b"OOODUS alt\0\xff";
 
 // A small generator of numbers (xorshift).
 struct Random(u64);
@@ -201,6 +250,9 @@ struct List {
     orders: Vec<u8>,
     accepted: Vec<(char, u32)>,
     state: Vec<u32>,
+    // the pose's two numbers by their bits
+    pose: [u32; 2],
+    look: [u32; 2],
 }
 
 impl List {
@@ -221,6 +273,20 @@ impl List {
         if answer.is_ok() {
             self.accepted.push((letter, held));
         }
+    }
+
+    // The bench after the list, and what it shows.
+    fn end(&mut self, b: &Bench) {
+        let pose = b.pose();
+        let gate = match b.shown() {
+            Gate::Up => 0,
+            Gate::Down => 1,
+            Gate::Falling(_) => 2,
+            Gate::Rising(_) => 3,
+        };
+        self.state = state_of(b);
+        self.pose = [pose.angle, pose.change].map(f32::to_bits);
+        self.look = [gate, b.trains_present() as u32];
     }
 }
 
@@ -293,7 +359,7 @@ fn steps(r: &mut Random, s: &[u32; 7], least: u64) -> List {
             }
         }
     }
-    list.state = state_of(&b);
+    list.end(&b);
     list
 }
 
@@ -341,36 +407,173 @@ fn same_run(r: &mut Random, s: &[u32; 7], list: &List) -> bool {
     same
 }
 
-// Whether the library leaves the bench after the list as the second program does, with the same answers and commands, and leaves
-// all other places. Spoiled 0, a letter stands for no step; 1 to 4, a slice is one place too short.
-fn same_state(r: &mut Random, s: &[u32; 7], list: &List, spoiled: u64, places: usize) -> bool {
-    let n = list.letters.len();
-    let short = |k| n - (spoiled == k) as usize;
-    let mut letters = list.letters.clone();
-    if spoiled == 0 {
-        letters[r.below(n as u64) as usize] = r.one_of(b"DUS aolt\0\xff");
-    }
-    let numbers = &list.numbers[..short(1)];
-    let readings = &list.readings[..short(2)];
-    let mut answers = vec![UNTOUCHED; short(3) + r.below(3) as usize * (spoiled > 3) as usize];
-    let mut orders = vec![UNTOUCHED; short(4) + r.below(3) as usize * (spoiled > 4) as usize];
-    let mut state: Vec<u32> = (0..places).map(|_| r.next() as u32).collect();
+// What is lent to a run of a list, and what is wanted of it. Spoiled 0, a letter is foreign to the list; 1 to 4, a slice is one place
+// too short; without space for what is written after the run, 14.
+struct Lent {
+    letters: Vec<u8>,
+    numbers: Vec<u32>,
+    readings: Vec<f32>,
+    answers: Vec<u8>,
+    orders: Vec<u8>,
+    want: u8,
+    want_answers: Vec<u8>,
+    want_orders: Vec<u8>,
+}
 
-    let (mut want_answers, mut want_orders) = (answers.clone(), orders.clone());
-    let mut want_state = state.clone();
-    let want = match (check(s), spoiled) {
-        (0, 0) => 15,
-        (0, 1..=4) => 14,
-        (0, _) if places < 196 => 14,
-        (k, _) => k,
-    };
-    if want == 0 {
-        want_answers[..n].copy_from_slice(&list.answers);
-        want_orders[..n].copy_from_slice(&list.orders);
-        want_state[..196].copy_from_slice(&list.state);
+impl Lent {
+    fn new(
+        r: &mut Random,
+        s: &[u32; 7],
+        list: &List,
+        foreign: &[u8],
+        spoiled: u64,
+        space: bool,
+    ) -> Lent {
+        let n = list.letters.len();
+        let short = |k| n - (spoiled == k) as usize;
+        let mut letters = list.letters.clone();
+        if spoiled == 0 {
+            letters[r.below(n as u64) as usize] = r.one_of(foreign);
+        }
+        let answers = vec![UNTOUCHED; short(3) + r.below(3) as usize * (spoiled > 3) as usize];
+        let orders = vec![UNTOUCHED; short(4) + r.below(3) as usize * (spoiled > 4) as usize];
+        let want = match (check(s), spoiled) {
+            (0, 0) => 15,
+            (0, 1..=4) => 14,
+            (0, _) if !space => 14,
+            (k, _) => k,
+        };
+        let (mut want_answers, mut want_orders) = (answers.clone(), orders.clone());
+        if want == 0 {
+            want_answers[..n].copy_from_slice(&list.answers);
+            want_orders[..n].copy_from_slice(&list.orders);
+        }
+        Lent {
+            letters,
+            numbers: list.numbers[..short(1)].to_vec(),
+            readings: list.readings[..short(2)].to_vec(),
+            answers,
+            orders,
+            want,
+            want_answers,
+            want_orders,
+        }
     }
-    let got = unsafe {
-        weqhaso_state(
+
+    // Whether the number, the answers and the commands are those wanted.
+    fn same(&self, s: &[u32; 7], list: &List, got: u8) -> bool {
+        let same = got == self.want
+            && self.answers == self.want_answers
+            && self.orders == self.want_orders;
+        if !same {
+            println!("settings {s:?}: {} wanted, {got} got", self.want);
+            println!("{:?} for {list:?}", self.letters);
+            println!("{:?} wanted\n{:?} got", self.want_answers, self.answers);
+            println!("{:?} wanted\n{:?} got", self.want_orders, self.orders);
+        }
+        same
+    }
+
+    // The library's run, with the bench after it.
+    fn run_to_state(&mut self, s: &[u32; 7], state: &mut [u32]) -> u8 {
+        unsafe {
+            weqhaso_state(
+                s[0],
+                s[1],
+                s[2],
+                s[3],
+                s[4],
+                s[5],
+                s[6],
+                self.letters.as_ptr(),
+                self.letters.len(),
+                self.numbers.as_ptr(),
+                self.numbers.len(),
+                self.readings.as_ptr(),
+                self.readings.len(),
+                self.answers.as_mut_ptr(),
+                self.answers.len(),
+                self.orders.as_mut_ptr(),
+                self.orders.len(),
+                state.as_mut_ptr(),
+                state.len(),
+            )
+        }
+    }
+
+    // The library's run, with what the bench shows after it.
+    fn run_to_look(&mut self, s: &[u32; 7], pose: &mut [f32], look: &mut [u32]) -> u8 {
+        unsafe {
+            weqhaso_look(
+                s[0],
+                s[1],
+                s[2],
+                s[3],
+                s[4],
+                s[5],
+                s[6],
+                self.letters.as_ptr(),
+                self.letters.len(),
+                self.numbers.as_ptr(),
+                self.numbers.len(),
+                self.readings.as_ptr(),
+                self.readings.len(),
+                self.answers.as_mut_ptr(),
+                self.answers.len(),
+                self.orders.as_mut_ptr(),
+                self.orders.len(),
+                pose.as_mut_ptr(),
+                pose.len(),
+                look.as_mut_ptr(),
+                look.len(),
+            )
+        }
+    }
+}
+
+// What a cabinet alone hears, with what the second program's answers: trains that are present and others, any number.
+fn hearing(r: &mut Random, s: &[u32; 7]) -> List {
+    let mut list = List::default();
+    let Ok(mut c) = Cabinet::new(s) else {
+        list.add('T', 0, 0.0, 0, Ok(' '));
+        return list;
+    };
+    let many = r.one_of(&[1, 2, 3, 8, 96]);
+    let quiet = r.one_of(&[3, 6, 12]);
+    for _ in 0..1 + r.below(150) {
+        let letter = r.one_of(&['A', 'A', 'L', 'T', 'T', 'T', 'T', 'T']);
+        let stands = |n: u32| c.present[n as usize - 1].is_some() == (letter == 'L');
+        let able: Vec<u32> = (1..=96).filter(|n| stands(*n)).collect();
+        let n = match r.below(20) {
+            0 => 0,
+            1 => 97,
+            2 => r.next() as u32,
+            3..=13 if !able.is_empty() => able[r.below(able.len().min(many) as u64) as usize],
+            _ => 1 + r.below(many as u64) as u32,
+        };
+        match letter {
+            'A' => list.add('A', n, 0.0, n, c.approach(n)),
+            'L' => list.add('L', n, 0.0, n, c.leave(n)),
+            _ => {
+                for _ in 0..1 + r.below(quiet) {
+                    list.add('T', r.next() as u32, 0.0, 0, c.clock());
+                }
+            }
+        }
+    }
+    list
+}
+
+// The library's cabinet alone, taken through a list.
+fn run_cabinet(
+    s: &[u32; 7],
+    letters: &[u8],
+    numbers: &[u32],
+    answers: &mut [u8],
+    orders: &mut [u8],
+) -> u8 {
+    unsafe {
+        weqhaso_cabinet(
             s[0],
             s[1],
             s[2],
@@ -382,32 +585,113 @@ fn same_state(r: &mut Random, s: &[u32; 7], list: &List, spoiled: u64, places: u
             letters.len(),
             numbers.as_ptr(),
             numbers.len(),
-            readings.as_ptr(),
-            readings.len(),
             answers.as_mut_ptr(),
             answers.len(),
             orders.as_mut_ptr(),
             orders.len(),
-            state.as_mut_ptr(),
-            state.len(),
         )
-    };
-    let same =
-        got == want && answers == want_answers && orders == want_orders && state == want_state;
-    if !same {
-        println!("settings {s:?}, spoiled {spoiled}, {places} places: {want} wanted, {got} got");
-        println!("{letters:?}\n{list:?}\n{want_answers:?} wanted\n{answers:?} got");
-        println!("{want_orders:?} wanted\n{orders:?} got\n{want_state:?} wanted\n{state:?} got");
     }
-    same
+}
+
+// Whether it answers the list as the second program's does, and leaves all other places.
+fn same_heard(r: &mut Random, s: &[u32; 7], list: &List, spoiled: u64) -> bool {
+    let mut lent = Lent::new(r, s, list, NOT_HEARD, spoiled, true);
+    let got = run_cabinet(
+        s,
+        &lent.letters,
+        &lent.numbers,
+        &mut lent.answers,
+        &mut lent.orders,
+    );
+    lent.same(s, list, got)
+}
+
+// How often the cabinet alone lowered, raised, and refused with 5, 6 and 9.
+#[derive(Default, Debug)]
+struct Given {
+    lowers: u32,
+    raises: u32,
+    refused: [u32; 3],
+}
+
+impl Given {
+    fn count(&mut self, list: &List) {
+        let many = |bytes: &[u8], b: u8| bytes.iter().filter(|x| **x == b).count() as u32;
+        self.lowers += many(&list.orders, b'D');
+        self.raises += many(&list.orders, b'U');
+        for (i, k) in [5, 6, 9].into_iter().enumerate() {
+            self.refused[i] += many(&list.answers, k);
+        }
+    }
+
+    fn check_enough(&self) {
+        assert!(self.lowers >= 1_000 && self.raises >= 1_000, "{self:?}");
+        assert!(self.refused.iter().all(|n| *n >= 1_000), "{self:?}");
+    }
+}
+
+// A list of what a cabinet alone hears, its buffers longer, just long enough, too short, and with a foreign letter: how many differ.
+fn heard_differs(r: &mut Random, s: &[u32; 7], list: &List) -> u32 {
+    let spoiled = [WHOLE, 5, 0, 1, 3, 4];
+    let differ = spoiled.into_iter().filter(|k| !same_heard(r, s, list, *k));
+    differ.count() as u32
+}
+
+// Whether the library leaves the bench after the list as the second program does, with the same answers and commands, and leaves
+// all other places.
+fn same_state(r: &mut Random, s: &[u32; 7], list: &List, spoiled: u64, places: usize) -> bool {
+    let mut lent = Lent::new(r, s, list, NO_STEP, spoiled, places >= 196);
+    let mut state: Vec<u32> = (0..places).map(|_| r.next() as u32).collect();
+    let mut want_state = state.clone();
+    if lent.want == 0 {
+        want_state[..196].copy_from_slice(&list.state);
+    }
+    let got = lent.run_to_state(s, &mut state);
+    let same = state == want_state;
+    if !same {
+        println!("settings {s:?}, spoiled {spoiled}, {places} places\n{list:?}");
+        println!("{want_state:?} wanted\n{state:?} got");
+    }
+    lent.same(s, list, got) && same
+}
+
+// Whether the bench after the list shows what the second program's shows: pose, gate and trains present, with the same answers
+// and commands; and the library leaves all other places.
+fn same_look(r: &mut Random, s: &[u32; 7], list: &List, spoiled: u64, places: [usize; 2]) -> bool {
+    let mut lent = Lent::new(
+        r,
+        s,
+        list,
+        NO_STEP,
+        spoiled,
+        places[0] >= 2 && places[1] >= 2,
+    );
+    // no NaN, whose bits need not survive a copy
+    let mut pose: Vec<f32> = (0..places[0]).map(|_| r.below(9_999) as f32).collect();
+    let mut look: Vec<u32> = (0..places[1]).map(|_| r.next() as u32).collect();
+    let bits = |pose: &[f32]| -> Vec<u32> { pose.iter().map(|f| f.to_bits()).collect() };
+    let (mut want_pose, mut want_look) = (bits(&pose), look.clone());
+    if lent.want == 0 {
+        want_pose[..2].copy_from_slice(&list.pose);
+        want_look[..2].copy_from_slice(&list.look);
+    }
+    let got = lent.run_to_look(s, &mut pose, &mut look);
+    let same = bits(&pose) == want_pose && look == want_look;
+    if !same {
+        println!("settings {s:?}, spoiled {spoiled}, {places:?} places\n{list:?}");
+        println!("{want_pose:?}, {want_look:?} wanted\n{pose:?}, {look:?} got");
+    }
+    lent.same(s, list, got) && same
 }
 
 // Whether the library answers clock steps with the arm at 90 degrees, one more than there are instants, as the second program
-// does: 10 at the last of them.
+// does: 10 at the last of them; and its cabinet alone in the same way.
 fn same_clock(s: &[u32; 7]) -> bool {
     let n = LAST_INSTANT as usize + 1;
     let mut b = Bench::new(s).unwrap();
+    let mut c = Cabinet::new(s).unwrap();
     let want: Vec<u8> = (0..n).map(|_| b.clock(90.0).err().unwrap_or(0)).collect();
+    let alone = (0..n).all(|i| c.clock().err().unwrap_or(0) == want[i]);
     let list = List {
         letters: vec![b'T'; n],
         numbers: vec![0; n],
@@ -416,12 +700,22 @@ fn same_clock(s: &[u32; 7]) -> bool {
     };
     let (mut answers, mut orders) = (vec![UNTOUCHED; n], vec![UNTOUCHED; n]);
     let got = run(s, &list, &mut answers, &mut orders);
-    let same = got == 0 && want[n - 1] == 10 && answers == want && orders.iter().all(|o| *o == 0);
-    if !same {
+    let same = |got: u8, answers: &[u8], orders: &[u8]| {
+        got == 0 && want[n - 1] == 10 && answers == want && orders.iter().all(|o| *o == 0)
+    };
+    if !same(got, &answers, &orders) {
         let at = (0..n).find(|i| answers[*i] != want[*i] || orders[*i] != 0);
         println!("settings {s:?}: {got} got; of {n} clock steps at 90 degrees the first that differs is {at:?}");
+        return false;
     }
-    same
+    answers.fill(UNTOUCHED);
+    orders.fill(UNTOUCHED);
+    let got = run_cabinet(s, &list.letters, &list.numbers, &mut answers, &mut orders);
+    let heard = alone && same(got, &answers, &orders);
+    if !heard {
+        println!("settings {s:?}: {got} got of a cabinet alone; its {n} clock steps differ");
+    }
+    heard
 }
 
 // What the second program records of the list: each step's answer and the bytes used, or the refusal of the start.
@@ -478,7 +772,7 @@ fn same_record(r: &mut Random, s: &[u32; 7], list: &List, bytes: usize) -> bool 
     let short = |k| n - (spoiled == k) as usize;
     let mut letters = list.letters.clone();
     if spoiled == 0 {
-        letters[r.below(n as u64) as usize] = r.one_of(b"DUS aolt\0\xff");
+        letters[r.below(n as u64) as usize] = r.one_of(NO_STEP);
     }
     let numbers = &list.numbers[..short(1)];
     let readings = &list.readings[..short(2)];
@@ -1004,7 +1298,7 @@ fn handed_over(r: &mut Random, hands: &mut Hands, full: bool) -> ([u32; 7], List
     }
     // so that each list has a refused step
     w.step('A', 0);
-    w.list.state = state_of(&w.b);
+    w.list.end(&w.b);
     (s, w.list)
 }
 
@@ -1037,12 +1331,124 @@ fn list_differs(r: &mut Random, s: &[u32; 7], list: &List) -> u32 {
     differ + text_differs(r, &refused)
 }
 
+// The sorts of neighbours that are swapped: their letters in the order of the alphabet.
+const PAIRS: [&[u8; 2]; 5] = [b"AA", b"AO", b"OO", b"LO", b"LL"];
+
+// How many neighbours of each sort were swapped; how often the arm rose with the later of two leaves, and then with the other
+// train's; and how often at the other of the two places. (Never: whoever goes inside or leaves is due, so as long as one of the two
+// has not left, no leave raises the arm.)
+#[derive(Default, Debug)]
+struct Swaps {
+    tried: [u32; 5],
+    other_train: u32,
+    other_place: u32,
+}
+
+impl Swaps {
+    fn check_enough(&self) {
+        assert!(self.tried.iter().all(|n| *n >= 500), "{self:?}");
+        assert!(self.other_train >= 500, "{self:?}");
+    }
+
+    fn all(&self) -> u32 {
+        self.tried.iter().sum()
+    }
+}
+
+// The sort of the steps i and i + 1, where they can be swapped: both accepted, about different trains, neither a clock step, and
+// not an approach beside a leave.
+fn swappable(list: &List, i: usize) -> Option<usize> {
+    let mut pair = [list.letters[i], list.letters[i + 1]];
+    pair.sort();
+    let accepted = list.answers[i..i + 2] == [0, 0];
+    let different = list.numbers[i] != list.numbers[i + 1];
+    let sort = PAIRS.iter().position(|p| **p == pair);
+    sort.filter(|_| accepted && different)
+}
+
+// What the second program answers to the steps of a list.
+fn answered(s: &[u32; 7], letters: &[u8], numbers: &[u32], readings: &[f32]) -> List {
+    let mut b = Bench::new(s).expect("settings that are taken");
+    let mut list = List::default();
+    for (i, letter) in letters.iter().enumerate() {
+        let (letter, n) = (*letter as char, numbers[i]);
+        let answer = match letter {
+            'T' => b.clock(readings[i]),
+            _ => b.step(letter, n),
+        };
+        list.add(letter, n, readings[i], n, answer);
+    }
+    list.end(&b);
+    list
+}
+
+// Whether the list with the steps i and i + 1 swapped is answered by the library as by the second program, and as the list is:
+// the same refusal numbers and final state, the same commands after the two, and of the two together the same in the same order.
+fn same_swapped(r: &mut Random, s: &[u32; 7], list: &List, i: usize, swaps: &mut Swaps) -> bool {
+    let (mut letters, mut numbers) = (list.letters.clone(), list.numbers.clone());
+    letters.swap(i, i + 1);
+    numbers.swap(i, i + 1);
+    let swapped = answered(s, &letters, &numbers, &list.readings);
+    let given = |orders: &[u8]| -> Vec<u8> {
+        let two = orders[i..i + 2].iter().copied();
+        two.filter(|o| *o != 0).collect()
+    };
+    let mut got = Vec::new();
+    for each in [list, &swapped] {
+        let mut lent = Lent::new(r, s, each, NO_STEP, WHOLE, true);
+        let mut state = vec![0; 196];
+        let number = lent.run_to_state(s, &mut state);
+        if !lent.same(s, each, number) || state != each.state {
+            println!("settings {s:?}, steps {i} and the next swapped: {state:?} got\n{each:?}");
+            return false;
+        }
+        lent.answers.truncate(letters.len());
+        lent.orders.truncate(letters.len());
+        got.push((lent.answers, lent.orders, state));
+    }
+    let (was, is) = (&got[0], &got[1]);
+    let same = was.0 == is.0
+        && was.2 == is.2
+        && was.1[..i] == is.1[..i]
+        && was.1[i + 2..] == is.1[i + 2..]
+        && given(&was.1) == given(&is.1);
+    if !same {
+        println!("settings {s:?}, steps {i} and the next swapped: {was:?}, then {is:?}\n{list:?}");
+    }
+    let raised = |orders: &[u8]| (i..i + 2).find(|j| orders[*j] == b'U');
+    match (raised(&was.1), raised(&is.1)) {
+        (Some(j), Some(k)) if j == k => swaps.other_train += 1,
+        (Some(_), Some(_)) => swaps.other_place += 1,
+        _ => {}
+    }
+    same
+}
+
+// Some neighbours of each sort swapped, one pair at a time: how many differ.
+fn swapped_differ(r: &mut Random, s: &[u32; 7], list: &List, swaps: &mut Swaps) -> u32 {
+    let mut differ = 0;
+    for sort in 0..PAIRS.len() {
+        let here = |i: &usize| swappable(list, *i) == Some(sort);
+        let places: Vec<usize> = (0..list.letters.len() - 1).filter(here).collect();
+        for _ in 0..places.len().min(2) {
+            let i = r.one_of(&places);
+            swaps.tried[sort] += 1;
+            differ += !same_swapped(r, s, list, i, swaps) as u32;
+        }
+    }
+    differ
+}
+
 fn main() {
     let mut r = Random(0x2545_f491_4f6c_dd1d);
     let mut q = Random(0x9e37_79b9_7f4a_7c15);
     let mut p = Random(0xd1b5_4a32_d192_ed03);
     let mut z = Random(0x6a09_e667_f3bc_c909);
     let mut h = Random(0xbb67_ae85_84ca_a73b);
+    let mut l = Random(0x3c6e_f372_fe94_f82b);
+    let mut v = Random(0xa54f_f53a_5f1d_36f1);
+    let mut c = Random(0x510e_527f_ade6_82d1);
+    let (mut looks, mut swaps) = (0, Swaps::default());
     let (mut tried, mut states, mut records, mut texts, mut differ) = (0, 0, 0, 0, 0);
     while tried < STEPS {
         let s = settings(&mut r);
@@ -1060,6 +1466,22 @@ fn main() {
             (spoiled, any),
         ] {
             differ += !same_state(&mut z, &s, &list, spoiled, places) as u32;
+        }
+        let (any, spoiled) = (l.below(4) as usize, l.below(10));
+        let longer = [2 + l.below(3) as usize, 2 + l.below(3) as usize];
+        for (spoiled, places) in [
+            (WHOLE, longer),
+            (WHOLE, [2, 2]),
+            (WHOLE, [1, 2]),
+            (WHOLE, [2, 1]),
+            (spoiled, [2, any]),
+            (spoiled, [any, 2]),
+        ] {
+            looks += 1;
+            differ += !same_look(&mut l, &s, &list, spoiled, places) as u32;
+        }
+        if check(&s) == 0 {
+            differ += swapped_differ(&mut v, &s, &list, &mut swaps);
         }
         let used = recorded(&s, &list, &mut vec![0; 20_000]).map_or(135, |(_, used)| used);
         let more = used + 1 + q.below(40) as usize;
@@ -1098,16 +1520,31 @@ fn main() {
     for i in 0..HAND_LISTS + FULL_YARDS {
         let (s, list) = handed_over(&mut h, &mut hands, i >= HAND_LISTS);
         differ += list_differs(&mut h, &s, &list);
+        looks += 1;
+        differ += !same_look(&mut l, &s, &list, WHOLE, [2, 2]) as u32;
+        differ += swapped_differ(&mut v, &s, &list, &mut swaps);
+    }
+    let (mut heard, mut given) = (0, Given::default());
+    for _ in 0..HEARD_LISTS {
+        let s = settings(&mut c);
+        let list = hearing(&mut c, &s);
+        heard += list.letters.len();
+        given.count(&list);
+        differ += heard_differs(&mut c, &s, &list);
     }
     if differ == 0 {
         hands.check_enough();
+        swaps.check_enough();
+        given.check_enough();
     }
     let lists = HAND_LISTS + FULL_YARDS;
-    tried += LAST_INSTANT as u64 + 1;
+    tried += 2 * (LAST_INSTANT as u64 + 1);
     differ += !same_clock(&K) as u32;
     let reports = 3 * texts;
+    let (swapped, sorts) = (swaps.all(), swaps.tried);
+    let (other_train, other_place) = (swaps.other_train, swaps.other_place);
     println!(
-        "{tried} steps, {states} final states, {records} recordings, {texts} texts (the longest has {longest} bytes) with their stretches and {reports} reports, {lists} lists in which the kept trains change hands, {differ} differ"
+        "{tried} steps, {states} final states, {looks} looks, {swapped} swapped neighbours (AA, AO, OO, LO, LL: {sorts:?}; the raise {other_train} times with the other train's leave, {other_place} times at the other place), {HEARD_LISTS} lists of {heard} steps that a cabinet alone hears, {records} recordings, {texts} texts (the longest has {longest} bytes) with their stretches and {reports} reports, {lists} lists in which the kept trains change hands, {differ} differ"
     );
     std::process::exit((differ > 0) as i32);
 }

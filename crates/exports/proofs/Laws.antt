@@ -1,4 +1,4 @@
--- What the contracts of `runs::run`, `recording::record_run` and `report::report` say by the number of their answers. Assumes nothing.
+-- What the contracts of `runs::run`, `alone::run`, `recording::record_run` and `report::report` say by the number of their answers. Assumes nothing.
 use Prim.Native.Nat.{ℕ, zero, suc, _+_, _≤_}
 use native.Mathlib.Omega.{arith}
 use mathlib.Core.Path.{_≡_, refl, sym, ap, _∙_}
@@ -14,6 +14,9 @@ use Rattle.cabinet.specs.Cabinet as cabinet
 use Rattle.runs.specs.declared.Step.{Step}
 use Rattle.runs.specs.declared.Finished.{Finished}
 use Rattle.runs.specs.Run.{finishedBy, unlessRefused, Ran}
+use Rattle.runs.specs.Claims.{Heard}
+use Rattle.alone.specs.declared.Ended.{Ended}
+use Rattle.alone.specs.Alone.{endedBy, AloneRan}
 use Rattle.recorder.specs.declared.Recorded.{Recorded}
 use Rattle.lines.specs.Layout.{lineBytes}
 use Rattle.recorder.specs.Text.{current, text}
@@ -24,7 +27,7 @@ use Rattle.recorder.proofs.Recording.{keeps-always, ends-always}
 use Rattle.lines.specs.Bytes.{fits}
 use Rattle.report.specs.declared.Reported.{Reported}
 use Rattle.report.specs.Report.{writtenBytes, shortBuffer, ReportWritten}
-use Rattle.exports.specs.Exports.{Answered, pack, bytesOf, RecordAnswered, Reports}
+use Rattle.exports.specs.Exports.{Answered, CabinetAnswered, pack, bytesOf, RecordAnswered, Reports}
 
 number-finished : (k : ℕ) (s : Settings) (xs : List Step) → numberOf (finishedBy k s xs .verdict) ≡ k
 number-finished zero s xs = refl
@@ -39,6 +42,16 @@ answered-run s xs k r a b o p n ran e =
       ordered = ran .ordered;
       demand = ran .demand;
     }
+
+-- a cabinet's, in the same way
+pub answered-alone : (s : Settings) (xs : List Heard) (k : ℕ) (r : Ended) (a b o p : List ℕ) (n : ℕ) →
+    AloneRan s xs k r a b o p → n ≡ numberOf (r .verdict) → CabinetAnswered s xs k n a b o p
+answered-alone s xs k r a b o p n ran e =
+    record { number = e ∙ ap (λ (f : Ended). numberOf (f .verdict)) (ran .ended) ∙ go k; written = ran .written }
+  where
+    go : (k : ℕ) → numberOf (endedBy k s xs .verdict) ≡ k
+    go zero = refl
+    go (suc k) = refl
 
 -- ---- a recording
 

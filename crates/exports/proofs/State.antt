@@ -1,25 +1,15 @@
--- The bench written by numbers, train after train; and what refuses a run whose bench is written. Assumes nothing.
+-- The bench written by numbers, train after train. Assumes nothing.
 use Prim.Native.Nat.{ℕ, zero, suc, _+_, _*_, _-_, _≤_, _<_}
 use native.Mathlib.Omega.{arith}
-use mathlib.Core.Path.{_≡_, refl, sym, ap, _∙_}
-use mathlib.Core.Bool.{Bool, true, not}
+use mathlib.Core.Path.{_≡_, refl, _∙_}
 use mathlib.Core.List.{List, _∷_}
-use borrow.Author.Tests.{not-false}
 use lib.ListN.{length, set, length-set}
 use Rattle.trains.specs.declared.Table.{Table}
 use Rattle.trains.specs.Trains.{since}
 use Rattle.trains.specs.Table.{standingOf}
-use Rattle.settings.specs.declared.Settings.{Settings}
-use Rattle.settings.specs.Refusal.{refuse}
-use Rattle.settings.proofs.Laws.{refuse-none}
-use Rattle.bench.specs.Bench.{freshBench}
-use Rattle.runs.specs.declared.Step.{Step}
-use Rattle.runs.specs.declared.Finished.{Finished}
-use Rattle.runs.specs.Steps.{benchAfter}
-use Rattle.runs.specs.Run.{over, orFull, finishedBy, Ran}
-use Rattle.runs.proofs.Running.{none-first}
+use Rattle.runs.specs.Run.{over}
 use Rattle.runs.proofs.Slices.{Filled, filled-none, filled-next, filled-all}
-use Rattle.exports.specs.State.{standingNumber, trainNumbers, benchNumbers, StateAnswered}
+use Rattle.exports.specs.State.{standingNumber, trainNumbers}
 
 -- the first four places
 pub four-filled : (old rest : List ℕ) (a b c d : ℕ) → 4 ≤ length old → Filled old (set (set (set (set old 0 a) 1 b) 2 c) 3 d) 4 rest (a ∷ b ∷ c ∷ d ∷ rest)
@@ -73,34 +63,3 @@ module _ (t : Table) (state₀ : List ℕ) where
     writing-end h old whole f =
         let e : 97 - n ≡ 0 = omega arith in
         filled-all old state i whole (omega (arith, w .place, w .high, w .same-length)) (rw e at (w .filled old whole f))
-
--- ---- a run, and its bench written
-
-module _ (s : Settings) (xs : List Step) (own : ℕ) (places : Bool) (k : ℕ) (e : k ≡ orFull own places) (answers orders state : List ℕ) where
-  -- refused, nothing is written
-  pub state-refused : (k ≡ 0 → ⊥) → StateAnswered s xs (orFull own places) k answers answers orders orders state state
-  state-refused n = rw (← e) (go k n)
-    where
-      go : (k : ℕ) → (k ≡ 0 → ⊥) → StateAnswered s xs k k answers answers orders orders state state
-      go zero n = absurd (n refl)
-      go (suc k) n = record { run = record { number = refl; answered = refl; ordered = refl; demand = λ z. absurd (n z) }; numbers = refl }
-
-  module _ (z : k ≡ 0) where
-    passed : (own ≡ 0) × (refuse (not places) 14 0 ≡ 0)
-    passed = none-first own _ (sym e ∙ z)
-
-    -- there are places for the bench
-    pub places-there : places ≡ true
-    places-there = not-false _ (refuse-none (not places) 13 (passed .1) .0)
-
-    -- taken, the bench after the list is written
-    pub state-taken : (r : Finished) (answersAfter ordersAfter stateAfter : List ℕ) → Ran s xs own r answers answersAfter orders ordersAfter →
-        stateAfter ≡ over (benchNumbers (r .bench)) state → StateAnswered s xs (orFull own places) k answers answersAfter orders ordersAfter state stateAfter
-    state-taken r answersAfter ordersAfter stateAfter ran w =
-        let f : r ≡ finishedBy 0 s xs = rw (passed .0) at (ran .finished) in
-        let bench : stateAfter ≡ over (benchNumbers (benchAfter (freshBench s) xs)) state = w ∙ ap (λ (x : Finished). over (benchNumbers (x .bench)) state) f in
-        rw (← e, z)
-        (record {
-          run = record { number = refl; answered = rw (passed .0) at (ran .answered); ordered = rw (passed .0) at (ran .ordered); demand = λ q. ran .demand (passed .0) };
-          numbers = bench;
-        })

@@ -1,3 +1,4 @@
 pub mod Exports
 pub mod State
+pub mod Look
 pub mod Places

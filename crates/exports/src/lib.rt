@@ -2,7 +2,9 @@
 ghost use mathlib.Core.Path.{_≡_};
 ghost use Prim.Native.Nat.{_≤_};
 ghost use lib.ListN.{length};
-ghost use Rattle.runs.specs.Run.{stepsOf, over, runRefusal};
+ghost use Rattle.runs.specs.declared.Kind.the-variants.{OfBench};
+ghost use Rattle.runs.specs.Run.{stepsOf, over, runRefusal, Ran};
+ghost use Rattle.alone.specs.Alone.{heardOf, aloneRefusal};
 ghost use Rattle.recording.specs.RunRecorded.{recordRefusal};
 ghost use Rattle.recorder.specs.Text.{current};
 ghost use Rattle.reader.specs.Read.{readText};
@@ -10,12 +12,17 @@ ghost use Rattle.stretches.specs.declared.Sort.the-variants.{Lowered, Occupied}
 ghost use Rattle.stretches.specs.Walk.{startCursor, nothingFrom, stretchesAhead};
 ghost use Rattle.stretches.specs.Figures.{total};
 ghost use Rattle.report.specs.Report.{reportOf};
-ghost use Rattle.exports.specs.Exports.{settingsOf, Answered, RecordAnswered, packed, Reports};
+ghost use Rattle.exports.specs.Exports.{settingsOf, Answered, shownRefusal, CabinetAnswered, RecordAnswered, packed, Reports};
 ghost use Rattle.exports.specs.State.{commandNumber, standingNumber, benchNumbers, stateRefusal, StateAnswered};
+ghost use Rattle.exports.specs.Look.{poseNumbers, posed, gateNumber, looks, lookRefusal, LookAnswered};
 ghost use Rattle.exports.specs.Places.{cursorOf, cursorIn, flag, foundNumber, nextNumbers, nextFrom, Placed};
 use arm::Command;
+use arm::Gate;
 use bench::Bench;
+use runs::Finished;
+use runs::Kind;
 use settings::Settings;
+use settings::Verdict;
 use stretches::Cursor;
 use stretches::Next;
 use stretches::Sort;
@@ -54,7 +61,7 @@ pub extern "C" fn weqhaso_run(
     orders: &mut [u8],
 ) -> u8
     ensures { λ r. ⌜ Answered (settingsOf e f p q w x y) (stepsOf (now (letters .entry)) (now (numbers .entry)) (now (readings .entry)))
-        (runRefusal (settingsOf e f p q w x y) (now (letters .entry)) (length (now (numbers .entry))) (length (now (readings .entry)))
+        (runRefusal OfBench (settingsOf e f p q w x y) (now (letters .entry)) (length (now (numbers .entry))) (length (now (readings .entry)))
         (length (now (answers .entry))) (length (now (orders .entry))))
         r (now (answers .entry)) (now (answers .exit)) (now (orders .entry)) (now (orders .exit)) ⌝ }
 {
@@ -62,6 +69,42 @@ pub extern "C" fn weqhaso_run(
     let r = runs::run(s, letters, numbers, readings, answers, orders);
     let v = r.verdict;
     settings::number(v)
+}
+
+// A run as `runs::run` does it, where there is space for what is written after it; 14 last.
+fn run_with(
+    s: Settings,
+    letters: &[u8],
+    numbers: &[u32],
+    readings: &[f32],
+    answers: &mut [u8],
+    orders: &mut [u8],
+    space: bool,
+) -> Finished
+    ensures { λ r. ⌜ Ran s (stepsOf (now (letters .entry)) (now (numbers .entry)) (now (readings .entry)))
+        (shownRefusal s (now (letters .entry)) (length (now (numbers .entry))) (length (now (readings .entry)))
+        (length (now (answers .entry))) (length (now (orders .entry))) space)
+        r (now (answers .entry)) (now (answers .exit)) (now (orders .entry)) (now (orders .exit)) ⌝ }
+{
+    let own = runs::run_refusal(
+        Kind::OfBench,
+        s,
+        letters,
+        numbers.len(),
+        readings.len(),
+        answers.len(),
+        orders.len(),
+    );
+    let k = runs::or_full(own, space);
+    if k == 0 {
+        runs::run(s, letters, numbers, readings, answers, orders)
+    } else {
+        let fresh = bench::start(s).bench;
+        Finished {
+            verdict: Verdict::Refused(k),
+            bench: fresh,
+        }
+    }
 }
 
 // 0 up, 1 down.
@@ -136,20 +179,105 @@ pub extern "C" fn weqhaso_state(
         (now (state .entry)) (now (state .exit)) ⌝ }
 {
     let s = settings_of(e, f, p, q, w, x, y);
-    let own = runs::run_refusal(
-        s,
-        letters,
-        numbers.len(),
-        readings.len(),
-        answers.len(),
-        orders.len(),
-    );
-    let k = runs::or_full(own, 196 <= state.len());
+    let space = 196 <= state.len();
+    let r = run_with(s, letters, numbers, readings, answers, orders, space);
+    let v = r.verdict;
+    let k = settings::number(v);
     if k == 0 {
-        let r = runs::run(s, letters, numbers, readings, answers, orders);
         write_bench(r.bench, state);
     }
     k
+}
+
+// 0 up, 1 down, 2 falling, 3 rising.
+fn gate_number(gate: Gate) -> u32
+    ensures { λ r. ⌜ r ≡ gateNumber gate ⌝ }
+{
+    match gate {
+        Gate::Up => 0,
+        Gate::Down => 1,
+        Gate::Falling(_) => 2,
+        Gate::Rising(_) => 3,
+    }
+}
+
+// What the bench shows: the pose, then its gate by number and the trains present.
+fn write_look(b: Bench, pose: &mut [f32], look: &mut [u32])
+    requires { ⌜ (2 ≤ length (now pose)) × (2 ≤ length (now look)) ⌝ }
+    ensures { λ _. ⌜ (now (pose .exit) ≡ over (posed b) (now (pose .entry))) × (now (look .exit) ≡ over (looks b) (now (look .entry))) ⌝ }
+{
+    let shown = b.pose();
+    let gate = b.gate();
+    let table = b.table;
+    pose[0] = shown.angle;
+    pose[1] = shown.change;
+    look[0] = gate_number(gate);
+    look[1] = table.present();
+}
+
+// A run as `weqhaso_run` does it, and what the bench after it shows: in the first two places of `pose` the angle and its change over the
+// last clock step, in degrees; in the first two of `look` the gate (0 up, 1 down, 2 falling, 3 rising) and the number of trains present.
+// 14 last, where there are fewer places in either.
+#[no_mangle]
+pub extern "C" fn weqhaso_look(
+    e: u32,
+    f: u32,
+    p: u32,
+    q: u32,
+    w: u32,
+    x: u32,
+    y: u32,
+    letters: &[u8],
+    numbers: &[u32],
+    readings: &[f32],
+    answers: &mut [u8],
+    orders: &mut [u8],
+    pose: &mut [f32],
+    look: &mut [u32],
+) -> u8
+    ensures { λ r. ⌜ LookAnswered (settingsOf e f p q w x y)
+        (stepsOf (now (letters .entry)) (now (numbers .entry)) (now (readings .entry)))
+        (lookRefusal (settingsOf e f p q w x y) (now (letters .entry)) (length (now (numbers .entry))) (length (now (readings .entry)))
+        (length (now (answers .entry))) (length (now (orders .entry))) (length (now (pose .entry))) (length (now (look .entry))))
+        r (now (answers .entry)) (now (answers .exit)) (now (orders .entry)) (now (orders .exit))
+        (now (pose .entry)) (now (pose .exit)) (now (look .entry)) (now (look .exit)) ⌝ }
+{
+    let s = settings_of(e, f, p, q, w, x, y);
+    let space = (2 <= pose.len()) & (2 <= look.len());
+    let r = run_with(s, letters, numbers, readings, answers, orders, space);
+    let v = r.verdict;
+    let k = settings::number(v);
+    if k == 0 {
+        write_look(r.bench, pose, look);
+    }
+    k
+}
+
+// A cabinet alone under the settings, taken through a list of what it hears (`alone::run`): the refusal number of the whole, 0 where it is
+// taken; each answer's refusal number and command are written beside it.
+#[no_mangle]
+pub extern "C" fn weqhaso_cabinet(
+    e: u32,
+    f: u32,
+    p: u32,
+    q: u32,
+    w: u32,
+    x: u32,
+    y: u32,
+    letters: &[u8],
+    numbers: &[u32],
+    answers: &mut [u8],
+    orders: &mut [u8],
+) -> u8
+    ensures { λ r. ⌜ CabinetAnswered (settingsOf e f p q w x y) (heardOf (now (letters .entry)) (now (numbers .entry)))
+        (aloneRefusal (settingsOf e f p q w x y) (now (letters .entry)) (length (now (numbers .entry)))
+        (length (now (answers .entry))) (length (now (orders .entry))))
+        r (now (answers .entry)) (now (answers .exit)) (now (orders .entry)) (now (orders .exit)) ⌝ }
+{
+    let s = settings_of(e, f, p, q, w, x, y);
+    let r = alone::run(s, letters, numbers, answers, orders);
+    let v = r.verdict;
+    settings::number(v)
 }
 
 // A recorder under the settings, taken through a list of steps in the lent record (`recording::record_run`): 256 times the bytes of the

@@ -20,6 +20,7 @@ use Rattle.bench.specs.declared.Sensed.{Sensed}
 use Rattle.bench.specs.declared.Moved.{Moved}
 use Rattle.bench.specs.declared.Ticked.{Ticked}
 use Rattle.bench.specs.Bench.{sensed, clockRead, headSensed, headTicked, askedFor, firstFor, questionFor, withMotion}
+use Rattle.runs.specs.declared.Kind.the-variants.{OfBench}
 use Rattle.runs.specs.declared.Letter.the-variants as letter
 use Rattle.runs.specs.declared.Step.{Step}
 use Rattle.runs.specs.declared.Step.the-variants.{Clock}
@@ -27,38 +28,31 @@ use Rattle.runs.specs.Steps.{benchStepped, benchNext, benchAnswer}
 use Rattle.runs.specs.Letters.{letterOf, eventStep}
 use Rattle.runs.specs.Run.{stepsOf, answerByte, Beside, WentThrough}
 use Rattle.runs.proofs.Letters.{event-sensed}
-use Rattle.runs.proofs.Through.{StandsFor, Through, through-start, through-next, through-end}
+use Rattle.runs.proofs.Slices.{stepsFrom, StandsFor, steps-next, steps-end}
+use Rattle.runs.proofs.Through.{Went, went-start, went-next, went-end}
 use Rattle.runs.proofs.Turns.{asked-by, sensed-answer, sensed-taken, sensed-refused}
 
 -- at place i, both slices
-pub record Went (ls ns : List ℕ) (rs : List Float) (answers₀ orders₀ : List ℕ) (first : Bench) (answers orders : List ℕ) (b : Bench) (i : ℕ) : Type 0 where
-  pub answered : Through ls ns rs benchNext benchAnswer numberOf first answers₀ b answers i
-  pub ordered : Through ls ns rs benchNext benchAnswer answerByte first orders₀ b orders i
+pub record BenchWent (ls ns : List ℕ) (rs : List Float) (answers₀ orders₀ : List ℕ) (first : Bench) (answers orders : List ℕ) (b : Bench) (i : ℕ) : Type 0 where
+  pub went : Went (length ls) (stepsFrom ls ns rs) benchNext benchAnswer answers₀ orders₀ first answers orders b i
 
-pub went-start : (ls ns : List ℕ) (rs : List Float) (answers₀ orders₀ : List ℕ) (first : Bench) → Went ls ns rs answers₀ orders₀ first answers₀ orders₀ first 0
-went-start ls ns rs answers₀ orders₀ first =
-    record { answered = through-start ls ns rs benchNext benchAnswer numberOf first answers₀; ordered = through-start ls ns rs benchNext benchAnswer answerByte first orders₀ }
+pub bench-start : (ls ns : List ℕ) (rs : List Float) (answers₀ orders₀ : List ℕ) (first : Bench) → BenchWent ls ns rs answers₀ orders₀ first answers₀ orders₀ first 0
+bench-start ls ns rs answers₀ orders₀ first = record { went = went-start (length ls) (stepsFrom ls ns rs) benchNext benchAnswer answers₀ orders₀ first }
 
 module _ {ls ns : List ℕ} {rs : List Float} {answers₀ orders₀ : List ℕ} {first : Bench}
-    (long : Beside ls (length ns) (length rs) (length answers₀) (length orders₀))
-    {answers orders : List ℕ} {b : Bench} {i : ℕ} (t : Went ls ns rs answers₀ orders₀ first answers orders b i) where
+    (long : Beside OfBench ls (length ns) (length rs) (length answers₀) (length orders₀))
+    {answers orders : List ℕ} {b : Bench} {i : ℕ} (t : BenchWent ls ns rs answers₀ orders₀ first answers orders b i) where
   -- the end
-  pub went-end : length ls ≤ i → WentThrough first (stepsOf ls ns rs) b answers₀ answers orders₀ orders
-  went-end h =
-      let a = through-end (t .answered) long (long .byAnswers) h in
-      record { bench = a .0; answered = a .1; ordered = through-end (t .ordered) long (long .byOrders) h .1 }
+  pub bench-end : length ls ≤ i → WentThrough benchNext benchAnswer first (stepsOf ls ns rs) b answers₀ answers orders₀ orders
+  bench-end h = went-end (t .went) (long .byAnswers) (long .byOrders) (steps-end ls ns rs i h)
 
   -- a turn
   module _ (less : i < length ls) where
     -- the letter stands for the step x, which is a move m, with the bench after it as the code has it
     turn : (x : Step) (m : Moved) {v w : ℕ} (after : Bench) → StandsFor ls ns rs i x → m ≡ benchStepped b x → v ≡ numberOf (m .answer) → w ≡ answerByte (m .answer) →
-        m .bench ≡ after → Went ls ns rs answers₀ orders₀ first (set answers i v) (set orders i w) after (i + 1)
+        m .bench ≡ after → BenchWent ls ns rs answers₀ orders₀ first (set answers i v) (set orders i w) after (i + 1)
     turn x m after s e p q r =
-        let u = sym r ∙ ap (λ (g : Moved). g .bench) e in
-        record {
-          answered = through-next (t .answered) long (long .byAnswers) less s u (rw e at p);
-          ordered = through-next (t .ordered) long (long .byOrders) less s u (rw e at q);
-        }
+        record { went = went-next (t .went) (long .byAnswers) (long .byOrders) less (steps-next ls ns rs i long less s) (sym r ∙ ap (λ (g : Moved). g .bench) e) (rw e at p) (rw e at q) }
 
     -- an event c, asked for as a and sensed as h
     module _ {c : Event} (is : letterOf (getD ls i 0) ≡ letter.Event c) {q : Question} (eq : q ≡ questionFor c) {f : First} (ef : f ≡ firstFor c (b .head))
@@ -73,22 +67,22 @@ module _ {ls ns : List ℕ} {rs : List Float} {answers₀ orders₀ : List ℕ} 
       answer : h .answer ≡ sensed b c (getD ns i 0) .answer
       answer = sym (sensed-answer b c (getD ns i 0) h seen)
 
-      event : (after : Bench) → sensed b c (getD ns i 0) .bench ≡ after → Went ls ns rs answers₀ orders₀ first (set answers i v) (set orders i w) after (i + 1)
+      event : (after : Bench) → sensed b c (getD ns i 0) .bench ≡ after → BenchWent ls ns rs answers₀ orders₀ first (set answers i v) (set orders i w) after (i + 1)
       event after e =
           turn (eventStep c (getD ns i 0)) (sensed b c (getD ns i 0)) after (λ xs. rw is) (sym (event-sensed b (getD ns i 0) c)) (ev ∙ ap numberOf answer) (ew ∙ ap answerByte answer) e
 
       pub turn-taken : (o : Order) → h .answer ≡ Taken o →
-          Went ls ns rs answers₀ orders₀ first (set answers i v) (set orders i w)
+          BenchWent ls ns rs answers₀ orders₀ first (set answers i v) (set orders i w)
           (record { head = h .head; table = record { places = set (b .table .places) (a .place) (entryWith (h .standing)) } }) (i + 1)
       turn-taken o k =
           event _
           (sensed-taken b c (getD ns i 0) h seen o k
           ∙ ap (λ (x : Asked). record { head = h .head; table = record { places = set (b .table .places) (x .place) (entryWith (h .standing)) } }) (sym asked))
 
-      pub turn-refused : (k : ℕ) → h .answer ≡ Refused k → Went ls ns rs answers₀ orders₀ first (set answers i v) (set orders i w) b (i + 1)
+      pub turn-refused : (k : ℕ) → h .answer ≡ Refused k → BenchWent ls ns rs answers₀ orders₀ first (set answers i v) (set orders i w) b (i + 1)
       turn-refused k e = event b (sensed-refused b c (getD ns i 0) h seen k e)
 
     pub turn-clock : letterOf (getD ls i 0) ≡ letter.Clock → (m : Ticked) {v w : ℕ} → m ≡ headTicked (b .head) (readingOf (getD rs i nan)) → v ≡ numberOf (m .answer) → w ≡ answerByte (m .answer) →
-        Went ls ns rs answers₀ orders₀ first (set answers i v) (set orders i w) (withMotion b m .bench) (i + 1)
+        BenchWent ls ns rs answers₀ orders₀ first (set answers i v) (set orders i w) (withMotion b m .bench) (i + 1)
     unfolding clockRead
     turn-clock is m e p q = turn (Clock (getD rs i nan)) (withMotion b m) _ (λ xs. rw is) (ap (withMotion b) e) p q refl

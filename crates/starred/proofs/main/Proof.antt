@@ -8,7 +8,7 @@ use Rattle.arm.specs.Movement.{mayMove}
 use Rattle.trains.specs.Trains.{isTrain}
 use Rattle.runs.specs.History.{dueAt, latestAt, someTrain, command, stepRefusal, stepRefusals, orders}
 use Rattle.runs.specs.Letters.{letterOf}
-use Rattle.runs.specs.Run.{allSteps, stepsOf, runRefusal}
+use Rattle.runs.specs.Run.{allOf, stepsOf, runRefusal}
 use borrow.Author.Needs.{needs}
 use Rattle.starred.proofs.main.Statement.{statement}
 use Rattle.starred.proofs.main.Tie as tie
@@ -18,7 +18,7 @@ unfolding ticksFor inRange settingsRefusal settings.verdict
 check-settings-requires c κs = (record { whole = refl }, record { whole = refl })
 
 check-lists-requires : tie.Need-check-lists-requires
-unfolding runRefusal settingsRefusal inRange ticksFor allSteps letterOf stepsOf stepRefusals orders stepRefusal command someTrain dueAt latestAt isTrain readingOf mayMove ofBits
+unfolding runRefusal settingsRefusal inRange ticksFor allOf letterOf stepsOf stepRefusals orders stepRefusal command someTrain dueAt latestAt isTrain readingOf mayMove ofBits
 check-lists-requires c κs = record { whole = refl }
 
 returns : tie.Need-returns

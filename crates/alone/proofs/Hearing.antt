@@ -1,0 +1,122 @@
+-- The cabinet on its way through a list of what it hears: the loop's beginning, a turn and its end; and the whole run. Assumes nothing.
+use Prim.Native.Nat.{ℕ, zero, suc, _+_, _≤_, _<_}
+use native.Mathlib.Numerals.{add-one}
+use native.Mathlib.Omega.{arith}
+use mathlib.Core.Path.{_≡_, refl, sym, ap, _∙_}
+use mathlib.Core.Bool.{true, false≢true}
+use mathlib.Core.List.{List, [], _∷_}
+use lib.ListN.{length, drop, getD, set, drop-of-length-le}
+use lib.Seq.{drop-cons}
+use Rattle.settings.specs.declared.Settings.{Settings}
+use Rattle.settings.specs.declared.Verdict.the-variants.{Taken, Refused}
+use Rattle.cabinet.specs.declared.Cabinet.{Cabinet}
+use Rattle.cabinet.specs.declared.Stepped.{Stepped}
+use Rattle.cabinet.specs.Cabinet.{numberOf, freshCabinet, started}
+use Rattle.bench.specs.declared.Event.the-variants as events
+use Rattle.runs.specs.declared.Kind.the-variants.{OfCabinet}
+use Rattle.runs.specs.declared.Letter.{Letter}
+use Rattle.runs.specs.declared.Letter.the-variants as letter
+use Rattle.runs.specs.Letters.{letterOf, isHeard}
+use Rattle.runs.specs.Claims.{Heard, approaching, leaving, ticking, cabinetStepped, cabinetNext, cabinetAnswer}
+use Rattle.runs.specs.Run.{answerByte, Beside, WentThrough}
+use Rattle.runs.proofs.Slices.{letter-at}
+use Rattle.runs.proofs.Through.{Went, went-start, went-next, went-end}
+use Rattle.alone.specs.declared.Ended.{Ended}
+use Rattle.alone.specs.Alone.{withHeard, heardOf, heardStep, AloneRan}
+
+-- ---- letters
+
+-- what a letter that is heard stands for (ticking, without meaning, for another)
+abbrev heardAs : Letter → ℕ → Heard
+heardAs (letter.Event events.Approach) n = approaching n
+heardAs (letter.Event events.Occupy) n = ticking
+heardAs (letter.Event events.Leave) n = leaving n
+heardAs letter.Clock n = ticking
+heardAs (letter.Command k) n = ticking
+heardAs letter.None n = ticking
+
+heard-with : (w : Letter) (n : ℕ) (xs : List Heard) → isHeard w ≡ true → withHeard w n xs ≡ heardAs w n ∷ xs
+heard-with (letter.Event events.Approach) n xs h = refl
+heard-with (letter.Event events.Occupy) n xs h = absurd (false≢true h)
+heard-with (letter.Event events.Leave) n xs h = refl
+heard-with letter.Clock n xs h = refl
+heard-with (letter.Command k) n xs h = absurd (false≢true h)
+heard-with letter.None n xs h = absurd (false≢true h)
+
+heard-steps : (c : Cabinet) (w : Letter) (n : ℕ) → isHeard w ≡ true → heardStep c w n ≡ cabinetStepped c (heardAs w n)
+heard-steps c (letter.Event events.Approach) n h = refl
+heard-steps c (letter.Event events.Occupy) n h = absurd (false≢true h)
+heard-steps c (letter.Event events.Leave) n h = refl
+heard-steps c letter.Clock n h = refl
+heard-steps c (letter.Command k) n h = absurd (false≢true h)
+heard-steps c letter.None n h = absurd (false≢true h)
+
+-- ---- the list from place i on
+
+abbrev pub heardFrom : List ℕ → List ℕ → ℕ → List Heard
+heardFrom ls ns i = heardOf (drop i ls) (drop i ns)
+
+heard-next : (ls ns : List ℕ) (i : ℕ) → i < length ls → i < length ns →
+    heardFrom ls ns i ≡ withHeard (letterOf (getD ls i 0)) (getD ns i 0) (heardFrom ls ns (i + 1))
+unfolding heardOf
+heard-next ls ns i a b = rw (add-one, drop-cons ls i 0 a, drop-cons ns i 0 b)
+
+heard-end : (ls ns : List ℕ) (i : ℕ) → length ls ≤ i → heardFrom ls ns i ≡ []
+unfolding heardOf
+heard-end ls ns i h = rw (drop-of-length-le ls {i = i} h)
+
+-- ---- the loop
+
+-- at place i, both slices
+pub record Hearing (ls ns answers₀ orders₀ : List ℕ) (first : Cabinet) (answers orders : List ℕ) (c : Cabinet) (i : ℕ) : Type 0 where
+  pub went : Went (length ls) (heardFrom ls ns) cabinetNext cabinetAnswer answers₀ orders₀ first answers orders c i
+
+pub hearing-start : (ls ns answers₀ orders₀ : List ℕ) (first : Cabinet) → Hearing ls ns answers₀ orders₀ first answers₀ orders₀ first 0
+hearing-start ls ns answers₀ orders₀ first =
+    record { went = went-start (length ls) (heardFrom ls ns) cabinetNext cabinetAnswer answers₀ orders₀ first }
+
+module _ {ls ns answers₀ orders₀ : List ℕ} {first : Cabinet}
+    (long : Beside OfCabinet ls (length ns) (length ns) (length answers₀) (length orders₀))
+    {answers orders : List ℕ} {c : Cabinet} {i : ℕ} (t : Hearing ls ns answers₀ orders₀ first answers orders c i) where
+  -- a turn: the letter as read, and what the cabinet makes of it
+  pub hearing-next : i < length ls → {w : Letter} → w ≡ letterOf (getD ls i 0) → {m : Stepped} → m ≡ heardStep c w (getD ns i 0) →
+      {u v : ℕ} → u ≡ numberOf (m .answer) → v ≡ answerByte (m .answer) →
+      Hearing ls ns answers₀ orders₀ first (set answers i u) (set orders i v) (m .cabinet) (i + 1)
+  hearing-next less {w} is {m} e p q =
+      let heard : isHeard w ≡ true = ap isHeard is ∙ letter-at OfCabinet ls i (long .belong) less in
+      let step : m ≡ cabinetStepped c (heardAs w (getD ns i 0)) = e ∙ heard-steps c w (getD ns i 0) heard in
+      let rest =
+      heard-next ls ns i less (omega (arith, long .byNumbers))
+      ∙ ap (λ (x : Letter). withHeard x (getD ns i 0) (heardFrom ls ns (i + 1))) (sym is)
+      ∙ heard-with w (getD ns i 0) _ heard
+      in
+      record {
+        went = went-next (t .went) (long .byAnswers) (long .byOrders) less rest
+            (ap (λ (g : Stepped). g .cabinet) step) (rw step at p) (rw step at q);
+      }
+
+  pub hearing-end : length ls ≤ i → WentThrough cabinetNext cabinetAnswer first (heardOf ls ns) c answers₀ answers orders₀ orders
+  hearing-end h = went-end (t .went) (long .byAnswers) (long .byOrders) (heard-end ls ns i h)
+
+-- ---- the run
+
+-- a start gives a fresh cabinet
+pub started-fresh : (s : Settings) (m : Stepped) → m ≡ started s → m .cabinet ≡ freshCabinet s
+unfolding started
+started-fresh s m e = ap (λ (m : Stepped). m .cabinet) e
+
+pub alone-taken : (s : Settings) (xs : List Heard) (k : ℕ) (r : Cabinet) (answers answersAfter orders ordersAfter : List ℕ) → k ≡ 0 →
+    WentThrough cabinetNext cabinetAnswer (freshCabinet s) xs r answers answersAfter orders ordersAfter →
+    AloneRan s xs k (record { verdict = Taken; cabinet = r }) answers answersAfter orders ordersAfter
+alone-taken s xs k r answers answersAfter orders ordersAfter z w =
+    rw z
+    (record {
+      ended = ap (λ (c : Cabinet). record { verdict = Taken; cabinet = c }) (w .state);
+      written = record { answered = w .answered; ordered = w .ordered };
+    })
+
+-- refused, nothing is written
+pub alone-refused : (s : Settings) (xs : List Heard) (k : ℕ) (answers orders : List ℕ) → (k ≡ 0 → ⊥) →
+    AloneRan s xs k (record { verdict = Refused k; cabinet = freshCabinet s }) answers answers orders orders
+alone-refused s xs zero answers orders n = absurd (n refl)
+alone-refused s xs (suc k) answers orders n = record { ended = refl; written = record { answered = refl; ordered = refl } }

@@ -1,0 +1,66 @@
+-- A cabinet alone and a list of what it hears that lies in lent slices: what `run` writes and gives back (document 01, "Cabinet": it hears
+-- approach, leave and clock, never occupy or the arm). Decides beyond it, as `runs::run` does: the letters are the record's, A, L and T; a list
+-- with any other letter is refused as a whole, 15, and slices that are shorter than the letters, 14, after it. Assumes nothing.
+use Prim.Native.Nat.{ℕ, zero, suc}
+use mathlib.Core.Path.{_≡_}
+use mathlib.Core.List.{List, [], _∷_, map}
+use Rattle.settings.specs.declared.Settings.{Settings}
+use Rattle.settings.specs.declared.Verdict.the-variants.{Taken, Refused}
+use Rattle.cabinet.specs.declared.Cabinet.{Cabinet}
+use Rattle.cabinet.specs.declared.Stepped.{Stepped}
+use Rattle.cabinet.specs.Cabinet.{numberOf, freshCabinet, approached, left, clocked, refused}
+use Rattle.bench.specs.declared.Event.the-variants as events
+use Rattle.runs.specs.declared.Kind.the-variants.{OfCabinet}
+use Rattle.runs.specs.declared.Letter.{Letter}
+use Rattle.runs.specs.declared.Letter.the-variants as letter
+use Rattle.runs.specs.Letters.{letterOf}
+use Rattle.runs.specs.Claims.{Heard, approaching, leaving, ticking, cabinetAfter, cabinetAnswers}
+use Rattle.runs.specs.Run.{answerByte, runRefusal, unlessRefused}
+use Rattle.alone.specs.declared.Ended.{Ended}
+
+-- ---- the list
+
+-- a list with what a letter stands for before it, with this train number; no other letter adds anything
+abbrev pub withHeard : Letter → ℕ → List Heard → List Heard
+withHeard (letter.Event events.Approach) n xs = approaching n ∷ xs
+withHeard (letter.Event events.Occupy) n xs = xs
+withHeard (letter.Event events.Leave) n xs = leaving n ∷ xs
+withHeard letter.Clock n xs = ticking ∷ xs
+withHeard (letter.Command k) n xs = xs
+withHeard letter.None n xs = xs
+
+-- what the letters stand for, each with the number beside it
+unfoldable pub heardOf : List ℕ → List ℕ → List Heard
+heardOf [] numbers = []
+heardOf (c ∷ letters) [] = []
+heardOf (c ∷ letters) (n ∷ numbers) = withHeard (letterOf c) n (heardOf letters numbers)
+
+-- what the cabinet makes of a letter, with this train number; one that it does not hear is 15
+abbrev pub heardStep : Cabinet → Letter → ℕ → Stepped
+heardStep c (letter.Event events.Approach) n = approached c n
+heardStep c (letter.Event events.Occupy) n = refused c 15
+heardStep c (letter.Event events.Leave) n = left c n
+heardStep c letter.Clock n = clocked c
+heardStep c (letter.Command k) n = refused c 15
+heardStep c letter.None n = refused c 15
+
+-- ---- run
+
+-- the number that refuses it: the settings' own 1 to 4, 15 a letter that a cabinet does not hear, 14 last, a slice is too short
+abbrev pub aloneRefusal : Settings → List ℕ → ℕ → ℕ → ℕ → ℕ
+aloneRefusal s letters numbers answers orders = runRefusal OfCabinet s letters numbers numbers answers orders
+
+-- what comes back: the cabinet after the list, or the fresh one where it is refused
+abbrev pub endedBy : ℕ → Settings → List Heard → Ended
+endedBy zero s xs = record { verdict = Taken; cabinet = cabinetAfter (freshCabinet s) xs }
+endedBy (suc k) s xs = record { verdict = Refused (suc k); cabinet = freshCabinet s }
+
+-- what is written of a list xs with this refusal number: each answer's number, and the record's letter of each command
+pub record Written (s : Settings) (xs : List Heard) (k : ℕ) (answers answersAfter orders ordersAfter : List ℕ) : Type 0 where
+  pub answered : answersAfter ≡ unlessRefused k (map numberOf (cabinetAnswers (freshCabinet s) xs)) answers
+  pub ordered : ordersAfter ≡ unlessRefused k (map answerByte (cabinetAnswers (freshCabinet s) xs)) orders
+
+-- and what comes back
+pub record AloneRan (s : Settings) (xs : List Heard) (k : ℕ) (r : Ended) (answers answersAfter orders ordersAfter : List ℕ) : Type 0 where
+  pub ended : r ≡ endedBy k s xs
+  pub written : Written s xs k answers answersAfter orders ordersAfter

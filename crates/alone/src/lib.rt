@@ -1,0 +1,113 @@
+// A cabinet alone, taken through a list of what it hears that lies in lent slices, as `runs::run` takes a bench.
+ghost use mathlib.Core.Path.{_≡_};
+ghost use lib.ListN.{length};
+ghost use Rattle.cabinet.specs.Cabinet.{refused};
+ghost use Rattle.runs.specs.declared.Kind.the-variants.{OfCabinet};
+ghost use Rattle.runs.specs.Claims.{cabinetNext, cabinetAnswer};
+ghost use Rattle.runs.specs.Run.{Beside, WentThrough};
+ghost use Rattle.alone.specs.Alone.{heardStep, heardOf, aloneRefusal, AloneRan};
+use bench::Event;
+use cabinet::Answer;
+use cabinet::Cabinet;
+use cabinet::Stepped;
+use runs::Kind;
+use runs::Letter;
+use settings::Settings;
+use settings::Verdict;
+
+// Whether a list was taken, and the cabinet after it.
+pub struct Ended {
+    pub verdict: Verdict,
+    pub cabinet: Cabinet,
+}
+
+// What a letter that a cabinet does not hear answers: 15, and the cabinet as it was.
+fn unheard(c: Cabinet) -> Stepped
+    ensures { λ r. ⌜ r ≡ refused c 15 ⌝ }
+{
+    Stepped {
+        answer: Answer::Refused(15),
+        cabinet: c,
+    }
+}
+
+// What the cabinet makes of a letter, with the number beside it.
+fn hear(c: Cabinet, letter: Letter, n: u32) -> Stepped
+    ensures { λ r. ⌜ r ≡ heardStep c letter n ⌝ }
+{
+    match letter {
+        Letter::Event(e) => match e {
+            Event::Approach => c.approach(n),
+            Event::Occupy => unheard(c),
+            Event::Leave => c.leave(n),
+        },
+        Letter::Clock => c.clock(),
+        Letter::Command(_) => unheard(c),
+        Letter::None => unheard(c),
+    }
+}
+
+// The cabinet taken through the list, each answer and each command written beside what it heard.
+fn go_through(
+    first: Cabinet,
+    letters: &[u8],
+    numbers: &[u32],
+    answers: &mut [u8],
+    orders: &mut [u8],
+) -> Cabinet
+    requires { ⌜ Beside OfCabinet (now letters) (length (now numbers)) (length (now numbers)) (length (now answers)) (length (now orders)) ⌝ }
+    ensures { λ r. ⌜ WentThrough cabinetNext cabinetAnswer first (heardOf (now (letters .entry)) (now (numbers .entry)))
+        r (now (answers .entry)) (now (answers .exit)) (now (orders .entry)) (now (orders .exit)) ⌝ }
+{
+    let mut c = first;
+    let mut i: usize = 0;
+    while i < letters.len() {
+        let letter = runs::letter_of(letters[i]);
+        let m = hear(c, letter, numbers[i]);
+        let answer = m.answer;
+        answers[i] = runs::number_byte(answer);
+        orders[i] = runs::order_byte(answer);
+        c = m.cabinet;
+        i = i + 1;
+    }
+    c
+}
+
+// A fresh cabinet under the settings, taken through the list: A approach, L leave, T clock. Each answer's refusal number (0 taken) and
+// command (D, U or 0) are written beside it, all other places keep their contents, and the cabinet after the list comes back. Refused as
+// a whole, nothing is written: the settings' own number, 15 for any other letter, O too, 14 for a slice that is too short.
+pub fn run(
+    s: Settings,
+    letters: &[u8],
+    numbers: &[u32],
+    answers: &mut [u8],
+    orders: &mut [u8],
+) -> Ended
+    ensures { λ r. ⌜ AloneRan s (heardOf (now (letters .entry)) (now (numbers .entry)))
+        (aloneRefusal s (now (letters .entry)) (length (now (numbers .entry))) (length (now (answers .entry))) (length (now (orders .entry))))
+        r (now (answers .entry)) (now (answers .exit)) (now (orders .entry)) (now (orders .exit)) ⌝ }
+{
+    let fresh = cabinet::start(s).cabinet;
+    let n = numbers.len();
+    let k = runs::run_refusal(
+        Kind::OfCabinet,
+        s,
+        letters,
+        n,
+        n,
+        answers.len(),
+        orders.len(),
+    );
+    if k == 0 {
+        let last = go_through(fresh, letters, numbers, answers, orders);
+        Ended {
+            verdict: Verdict::Taken,
+            cabinet: last,
+        }
+    } else {
+        Ended {
+            verdict: Verdict::Refused(k),
+            cabinet: fresh,
+        }
+    }
+}
