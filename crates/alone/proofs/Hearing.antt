@@ -13,7 +13,7 @@ use Rattle.cabinet.specs.declared.Cabinet.{Cabinet}
 use Rattle.cabinet.specs.declared.Stepped.{Stepped}
 use Rattle.cabinet.specs.Cabinet.{numberOf, freshCabinet, started}
 use Rattle.bench.specs.declared.Event.the-variants as events
-use Rattle.runs.specs.declared.Kind.the-variants.{OfCabinet}
+use Rattle.runs.specs.declared.Feed.the-variants.{ToCabinet}
 use Rattle.runs.specs.declared.Letter.{Letter}
 use Rattle.runs.specs.declared.Letter.the-variants as letter
 use Rattle.runs.specs.Letters.{letterOf, isHeard}
@@ -76,14 +76,14 @@ hearing-start ls ns answers₀ orders₀ first =
     record { went = went-start (length ls) (heardFrom ls ns) cabinetNext cabinetAnswer answers₀ orders₀ first }
 
 module _ {ls ns answers₀ orders₀ : List ℕ} {first : Cabinet}
-    (long : Beside OfCabinet ls (length ns) (length ns) (length answers₀) (length orders₀))
+    (long : Beside ToCabinet ls (length ns) (length ns) (length answers₀) (length orders₀))
     {answers orders : List ℕ} {c : Cabinet} {i : ℕ} (t : Hearing ls ns answers₀ orders₀ first answers orders c i) where
   -- a turn: the letter as read, and what the cabinet makes of it
   pub hearing-next : i < length ls → {w : Letter} → w ≡ letterOf (getD ls i 0) → {m : Stepped} → m ≡ heardStep c w (getD ns i 0) →
       {u v : ℕ} → u ≡ numberOf (m .answer) → v ≡ answerByte (m .answer) →
       Hearing ls ns answers₀ orders₀ first (set answers i u) (set orders i v) (m .cabinet) (i + 1)
   hearing-next less {w} is {m} e p q =
-      let heard : isHeard w ≡ true = ap isHeard is ∙ letter-at OfCabinet ls i (long .belong) less in
+      let heard : isHeard w ≡ true = ap isHeard is ∙ letter-at ToCabinet ls i (long .belong) less in
       let step : m ≡ cabinetStepped c (heardAs w (getD ns i 0)) = e ∙ heard-steps c w (getD ns i 0) heard in
       let rest =
       heard-next ls ns i less (omega (arith, long .byNumbers))

@@ -10,7 +10,7 @@ use Rattle.cabinet.specs.declared.Cabinet.{Cabinet}
 use Rattle.cabinet.specs.declared.Stepped.{Stepped}
 use Rattle.cabinet.specs.Cabinet.{numberOf, freshCabinet, approached, left, clocked, refused}
 use Rattle.bench.specs.declared.Event.the-variants as events
-use Rattle.runs.specs.declared.Kind.the-variants.{OfCabinet}
+use Rattle.runs.specs.declared.Feed.the-variants.{ToCabinet}
 use Rattle.runs.specs.declared.Letter.{Letter}
 use Rattle.runs.specs.declared.Letter.the-variants as letter
 use Rattle.runs.specs.Letters.{letterOf}
@@ -48,7 +48,7 @@ heardStep c letter.None n = refused c 15
 
 -- the number that refuses it: the settings' own 1 to 4, 15 a letter that a cabinet does not hear, 14 last, a slice is too short
 abbrev pub aloneRefusal : Settings → List ℕ → ℕ → ℕ → ℕ → ℕ
-aloneRefusal s letters numbers answers orders = runRefusal OfCabinet s letters numbers numbers answers orders
+aloneRefusal s letters numbers answers orders = runRefusal ToCabinet s letters numbers numbers answers orders
 
 -- what comes back: the cabinet after the list, or the fresh one where it is refused
 abbrev pub endedBy : ℕ → Settings → List Heard → Ended

@@ -2,7 +2,7 @@
 ghost use mathlib.Core.Path.{_≡_};
 ghost use lib.ListN.{length};
 ghost use Rattle.cabinet.specs.Cabinet.{refused};
-ghost use Rattle.runs.specs.declared.Kind.the-variants.{OfCabinet};
+ghost use Rattle.runs.specs.declared.Feed.the-variants.{ToCabinet};
 ghost use Rattle.runs.specs.Claims.{cabinetNext, cabinetAnswer};
 ghost use Rattle.runs.specs.Run.{Beside, WentThrough};
 ghost use Rattle.alone.specs.Alone.{heardStep, heardOf, aloneRefusal, AloneRan};
@@ -10,7 +10,7 @@ use bench::Event;
 use cabinet::Answer;
 use cabinet::Cabinet;
 use cabinet::Stepped;
-use runs::Kind;
+use runs::Feed;
 use runs::Letter;
 use settings::Settings;
 use settings::Verdict;
@@ -55,7 +55,7 @@ fn go_through(
     answers: &mut [u8],
     orders: &mut [u8],
 ) -> Cabinet
-    requires { ⌜ Beside OfCabinet (now letters) (length (now numbers)) (length (now numbers)) (length (now answers)) (length (now orders)) ⌝ }
+    requires { ⌜ Beside ToCabinet (now letters) (length (now numbers)) (length (now numbers)) (length (now answers)) (length (now orders)) ⌝ }
     ensures { λ r. ⌜ WentThrough cabinetNext cabinetAnswer first (heardOf (now (letters .entry)) (now (numbers .entry)))
         r (now (answers .entry)) (now (answers .exit)) (now (orders .entry)) (now (orders .exit)) ⌝ }
 {
@@ -90,7 +90,7 @@ pub fn run(
     let fresh = cabinet::start(s).cabinet;
     let n = numbers.len();
     let k = runs::run_refusal(
-        Kind::OfCabinet,
+        Feed::ToCabinet,
         s,
         letters,
         n,

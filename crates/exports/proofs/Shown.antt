@@ -12,7 +12,7 @@ use Rattle.settings.specs.Refusal.{refuse}
 use Rattle.settings.proofs.Laws.{refuse-none}
 use Rattle.bench.specs.declared.Bench.{Bench}
 use Rattle.bench.specs.Bench.{freshBench}
-use Rattle.runs.specs.declared.Kind.the-variants.{OfBench}
+use Rattle.runs.specs.declared.Feed.the-variants.{ToBench}
 use Rattle.runs.specs.declared.Step.{Step}
 use Rattle.runs.specs.declared.Finished.{Finished}
 use Rattle.runs.specs.Steps.{benchAfter}
@@ -25,7 +25,7 @@ use Rattle.exports.proofs.Laws.{answered-run}
 module _ (s : Settings) (letters : List ℕ) (numbers readings answers orders : ℕ) (space : Bool) where
   -- the number of the run, and that of the whole
   abbrev own : ℕ
-  own = runRefusal OfBench s letters numbers readings answers orders
+  own = runRefusal ToBench s letters numbers readings answers orders
 
   abbrev whole : ℕ
   whole = shownRefusal s letters numbers readings answers orders space

@@ -6,7 +6,7 @@ use mathlib.Core.List.{List, [], map}
 use lib.ListN.{length}
 use Rattle.settings.specs.declared.Settings.{Settings}
 use Rattle.settings.specs.Settings.{numberOf}
-use Rattle.runs.specs.declared.Kind.the-variants.{OfBench}
+use Rattle.runs.specs.declared.Feed.the-variants.{ToBench}
 use Rattle.runs.specs.declared.Step.{Step}
 use Rattle.runs.specs.History as rules
 use Rattle.runs.specs.Run.{orFull, runRefusal, unlessRefused, orderByte}
@@ -36,7 +36,7 @@ pub record CabinetAnswered (s : Settings) (xs : List Heard) (k r : ℕ) (answers
 
 -- the number that refuses a run after which something of the bench is written: the run's own, or 14 last, where there is no space for it
 unfoldable pub shownRefusal : Settings → List ℕ → ℕ → ℕ → ℕ → ℕ → Bool → ℕ
-shownRefusal s letters numbers readings answers orders space = orFull (runRefusal OfBench s letters numbers readings answers orders) space
+shownRefusal s letters numbers readings answers orders space = orFull (runRefusal ToBench s letters numbers readings answers orders) space
 
 -- 256 times a count, and a refusal number; the count up to 2 ^ 56
 abbrev pub pack : ℕ → ℕ → ℕ

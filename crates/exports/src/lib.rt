@@ -2,7 +2,7 @@
 ghost use mathlib.Core.Path.{_≡_};
 ghost use Prim.Native.Nat.{_≤_};
 ghost use lib.ListN.{length};
-ghost use Rattle.runs.specs.declared.Kind.the-variants.{OfBench};
+ghost use Rattle.runs.specs.declared.Feed.the-variants.{ToBench};
 ghost use Rattle.runs.specs.Run.{stepsOf, over, runRefusal, Ran};
 ghost use Rattle.alone.specs.Alone.{heardOf, aloneRefusal};
 ghost use Rattle.recording.specs.RunRecorded.{recordRefusal};
@@ -19,8 +19,8 @@ ghost use Rattle.exports.specs.Places.{cursorOf, cursorIn, flag, foundNu
 use arm::Command;
 use arm::Gate;
 use bench::Bench;
+use runs::Feed;
 use runs::Finished;
-use runs::Kind;
 use settings::Settings;
 use settings::Verdict;
 use stretches::Cursor;
@@ -61,7 +61,7 @@ pub extern "C" fn weqhaso_run(
     orders: &mut [u8],
 ) -> u8
     ensures { λ r. ⌜ Answered (settingsOf e f p q w x y) (stepsOf (now (letters .entry)) (now (numbers .entry)) (now (readings .entry)))
-        (runRefusal OfBench (settingsOf e f p q w x y) (now (letters .entry)) (length (now (numbers .entry))) (length (now (readings .entry)))
+        (runRefusal ToBench (settingsOf e f p q w x y) (now (letters .entry)) (length (now (numbers .entry))) (length (now (readings .entry)))
         (length (now (answers .entry))) (length (now (orders .entry))))
         r (now (answers .entry)) (now (answers .exit)) (now (orders .entry)) (now (orders .exit)) ⌝ }
 {
@@ -87,7 +87,7 @@ fn run_with(
         r (now (answers .entry)) (now (answers .exit)) (now (orders .entry)) (now (orders .exit)) ⌝ }
 {
     let own = runs::run_refusal(
-        Kind::OfBench,
+        Feed::ToBench,
         s,
         letters,
         numbers.len(),

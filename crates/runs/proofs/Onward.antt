@@ -20,7 +20,7 @@ use Rattle.bench.specs.declared.Sensed.{Sensed}
 use Rattle.bench.specs.declared.Moved.{Moved}
 use Rattle.bench.specs.declared.Ticked.{Ticked}
 use Rattle.bench.specs.Bench.{sensed, clockRead, headSensed, headTicked, askedFor, firstFor, questionFor, withMotion}
-use Rattle.runs.specs.declared.Kind.the-variants.{OfBench}
+use Rattle.runs.specs.declared.Feed.the-variants.{ToBench}
 use Rattle.runs.specs.declared.Letter.the-variants as letter
 use Rattle.runs.specs.declared.Step.{Step}
 use Rattle.runs.specs.declared.Step.the-variants.{Clock}
@@ -40,7 +40,7 @@ pub bench-start : (ls ns : List ℕ) (rs : List Float) (answers₀ orders₀ : L
 bench-start ls ns rs answers₀ orders₀ first = record { went = went-start (length ls) (stepsFrom ls ns rs) benchNext benchAnswer answers₀ orders₀ first }
 
 module _ {ls ns : List ℕ} {rs : List Float} {answers₀ orders₀ : List ℕ} {first : Bench}
-    (long : Beside OfBench ls (length ns) (length rs) (length answers₀) (length orders₀))
+    (long : Beside ToBench ls (length ns) (length rs) (length answers₀) (length orders₀))
     {answers orders : List ℕ} {b : Bench} {i : ℕ} (t : BenchWent ls ns rs answers₀ orders₀ first answers orders b i) where
   -- the end
   pub bench-end : length ls ≤ i → WentThrough benchNext benchAnswer first (stepsOf ls ns rs) b answers₀ answers orders₀ orders

@@ -8,7 +8,7 @@ use lib.ListN.{length, take, replicate}
 use Rattle.settings.specs.Settings.{ticksFor, numberOf, verdict}
 use Rattle.worked.specs.Worked.{like, K}
 use Rattle.runs.specs.declared.Step.{Step}
-use Rattle.runs.specs.declared.Kind.the-variants.{OfBench}
+use Rattle.runs.specs.declared.Feed.the-variants.{ToBench}
 use Rattle.runs.specs.History.{stepRefusals, orders}
 use Rattle.runs.specs.Run.{stepsOf, orderByte, over, runRefusal}
 use Rattle.starred.specs.declared.Fall.{Fall}
@@ -42,7 +42,7 @@ overZeros new = over new (replicate 9 0)
 abbrev pub ruled : Listed → Bool × ℕ × List ℕ × List ℕ
 ruled x = (
   leb (x .steps) (length (x .letters)),
-  runRefusal OfBench K (lettersIn x) (length (x .numbers)) (length (x .readings)) 9 9,
+  runRefusal ToBench K (lettersIn x) (length (x .numbers)) (length (x .readings)) 9 9,
   overZeros (stepRefusals K [] (stepsIn x)),
   overZeros (map orderByte (orders K [] (stepsIn x))),
 )

@@ -1,7 +1,7 @@
 -- `alone::run` meets its contract: refused, or the cabinet taken through the list. Assumes nothing.
 use mathlib.Core.Path.{sym, _∙_}
 use lib.ListN.{length}
-use Rattle.runs.specs.declared.Kind.the-variants.{OfCabinet}
+use Rattle.runs.specs.declared.Feed.the-variants.{ToCabinet}
 use Rattle.runs.proofs.Running.{run-beside}
 use Rattle.alone.proofs.Hearing.{started-fresh, alone-taken, alone-refused}
 use borrow.Author.Needs.{needs}
@@ -18,7 +18,7 @@ go-through-requires : tie.Need-go-through-requires
 go-through-requires c κs =
     let k = c .before .before .before in
     let a = k .before .before .before .before .before .before .before .args in
-    run-beside OfCabinet (a .s) (a .letters .now)
+    run-beside ToCabinet (a .s) (a .letters .now)
     (length (a .numbers .now)) (length (a .numbers .now)) (length (a .answers .now)) (length (a .orders .now))
     (sym (k .run-refusal .ensures) ∙ c .before .before .if1 .taken)
 

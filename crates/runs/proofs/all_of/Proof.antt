@@ -10,10 +10,10 @@ use Rattle.runs.proofs.all_of.Statement.{statement}
 use Rattle.runs.proofs.all_of.Tie as tie
 
 abbrev Inv-loop : tie.InvT-loop
-Inv-loop kind letters i₀ i = (i ≤ length letters) × (allOf kind (drop i letters) ≡ allOf kind letters)
+Inv-loop feed letters i₀ i = (i ≤ length letters) × (allOf feed (drop i letters) ≡ allOf feed letters)
 
 abbrev μ-loop : tie.MeasureT-loop
-μ-loop kind letters i₀ i = length letters - i
+μ-loop feed letters i₀ i = length letters - i
 
 loop-holds : tie.Need-loop-holds Inv-loop μ-loop
 loop-holds c = (omega arith, refl)
@@ -36,19 +36,19 @@ loop-less c = search needs
 loop-again : tie.Need-loop-again Inv-loop μ-loop
 loop-again c =
     let k = c .before .before .before .before .before .loop in
-    let n = all-next (c .before .before .before .before .before .before .before .args .kind) (c .before .before .before .before .before .before .before .args .letters .now) (k .i) (c .before .before .before .before .loop-test .taken) in
+    let n = all-next (c .before .before .before .before .before .before .before .args .feed) (c .before .before .before .before .before .before .before .args .letters .now) (k .i) (c .before .before .before .before .loop-test .taken) in
     (omega arith, rw (n, ← (c .before .before .letter-of .ensures), ← (c .before .belongs .ensures), c .if1 .taken) at (k .inv .1))
 
 returns : tie.Need-returns Inv-loop μ-loop
 returns c =
     let k = c .before .before .before .before .before .loop in
-    let n = all-next (c .before .before .before .before .before .before .before .args .kind) (c .before .before .before .before .before .before .before .args .letters .now) (k .i) (c .before .before .before .before .loop-test .taken) in
+    let n = all-next (c .before .before .before .before .before .before .before .args .feed) (c .before .before .before .before .before .before .before .args .letters .now) (k .i) (c .before .before .before .before .loop-test .taken) in
     rw (n, ← (c .before .before .letter-of .ensures), ← (c .before .belongs .ensures), c .if1 .left) at (k .inv .1)
 
 returns-2 : tie.Need-returns-2 Inv-loop μ-loop
 returns-2 c =
     let k = c .before .loop in
-    sym (all-end (c .before .before .before .args .kind) (c .before .before .before .args .letters .now) (k .i) (c .loop-test .left)) ∙ k .inv .1
+    sym (all-end (c .before .before .before .args .feed) (c .before .before .before .args .letters .now) (k .i) (c .loop-test .left)) ∙ k .inv .1
 
 pub all-of-spec : {M : Type 1} → statement M
 all-of-spec =
