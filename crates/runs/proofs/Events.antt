@@ -14,7 +14,7 @@ use Rattle.bench.specs.declared.Event.the-variants as events
 use Rattle.runs.specs.declared.Step.the-variants.{Approach, Occupy, Leave}
 use Rattle.runs.specs.History.{History, instant, arm, armBefore, away, coming, inside, place, isAway, isComing, since, dueAt, stepRefusal}
 use Rattle.runs.specs.Letters.{eventStep}
-use Rattle.runs.specs.Swap.{leavesAt, SameTrain}
+use Rattle.runs.specs.Swap.{placeAfter, SameTrain}
 use Rattle.runs.proofs.Rules.{approach-ok, occupy-ok}
 use Rattle.runs.proofs.Course.{present-away}
 
@@ -38,8 +38,8 @@ same-then k h g e p q = (p .0 ∙ q .0, p .1 ∙ q .1)
 pub same-back : (k : ℕ) (h g : History) → SameTrain k h g → SameTrain k g h
 same-back k h g p = (sym (p .0), sym (p .1))
 
--- to its own train: it leaves it where `leavesAt` says
-pub event-own : (e : Event) (n : ℕ) (h : History) → place n (eventStep e n ∷ h) ≡ leavesAt e
+-- to its own train: it is then where `placeAfter` says
+pub event-own : (e : Event) (n : ℕ) (h : History) → place n (eventStep e n ∷ h) ≡ placeAfter e
 event-own events.Approach n h = rw (eq-eqb n n refl)
 event-own events.Occupy n h = rw (eq-eqb n n refl)
 event-own events.Leave n h = rw (eq-eqb n n refl)
@@ -75,7 +75,7 @@ stay-other : (h g : History) (k : ℕ) → SameTrain k g h → isAway (place k h
 stay-other h g k p a = (ap isAway (p .0) ∙ a, p .1)
 
 -- by an event at which no train goes, all stay
-pub stays : (s : Settings) (e : Event) → isAway (leavesAt e) ≡ false → (n : ℕ) (h : History) → stepRefusal s h (eventStep e n) ≡ 0 →
+pub stays : (s : Settings) (e : Event) → isAway (placeAfter e) ≡ false → (n : ℕ) (h : History) → stepRefusal s h (eventStep e n) ≡ 0 →
     Stay h (eventStep e n ∷ h)
 stays s events.Leave g n h ok k a = absurd (true≢false g)
 stays s events.Approach g n h ok k a = go (ℕ-discrete k n)
@@ -90,7 +90,7 @@ stays s events.Occupy g n h ok k a = go (eqb n k)
     go false = (a, refl)
 
 -- by one at which none comes, all who are present were
-pub stayed : (s : Settings) (e : Event) → isComing (leavesAt e) ≡ false → (n : ℕ) (h : History) → stepRefusal s h (eventStep e n) ≡ 0 →
+pub stayed : (s : Settings) (e : Event) → isComing (placeAfter e) ≡ false → (n : ℕ) (h : History) → stepRefusal s h (eventStep e n) ≡ 0 →
     Stay (eventStep e n ∷ h) h
 stayed s events.Approach c n h ok k a = absurd (true≢false c)
 stayed s events.Occupy c n h ok k a = go (ℕ-discrete k n)

@@ -22,7 +22,7 @@ use Rattle.runs.specs.Steps.{benchAfter, benchAnswers}
 use Rattle.runs.specs.Claims.{AllTaken}
 use Rattle.runs.specs.Match.{Valid, Match}
 use Rattle.runs.specs.Letters.{eventStep}
-use Rattle.runs.specs.Swap.{leavesAt, comesAndGoes, SameTrain, SameMoment, commandsGiven, SameHistory, SameBuilt, Swap}
+use Rattle.runs.specs.Swap.{placeAfter, comesAndGoes, SameTrain, SameMoment, commandsGiven, SameHistory, SameBuilt, Swap}
 use Rattle.runs.proofs.Invariants.{valid}
 use Rattle.runs.proofs.Looks.{look-again}
 use Rattle.runs.proofs.Agreement.{fresh-match, run-match, run-numbers, run-orders}
@@ -75,7 +75,7 @@ module _ (s : Settings) where
   event-command events.Occupy n h v ok = sym (look-again s (Occupy n ∷ h) (v, ok))
   event-command events.Leave n h v ok = refl
 
-  module _ (h : History) (v : Valid s h) (e f : Event) (n m : ℕ) (way : OneWay (leavesAt e) (leavesAt f))
+  module _ (h : History) (v : Valid s h) (e f : Event) (n m : ℕ) (way : OneWay (placeAfter e) (placeAfter f))
       (taken : AllTaken s h (eventStep e n ∷ eventStep f m ∷ [])) where
     abbrev one : History
     one = eventStep e n ∷ h
@@ -86,7 +86,7 @@ module _ (s : Settings) where
     one-turn : OneTurn s one two (command s h)
     one-turn = go way
       where
-        go : OneWay (leavesAt e) (leavesAt f) → OneTurn s one two (command s h)
+        go : OneWay (placeAfter e) (placeAfter f) → OneTurn s one two (command s h)
         go (inl p) =
             all-stay s h one two (event-instant e n h) (event-instant f m one) (stays s e (p .0) n h (taken .0)) (stays s f (p .1) m one (taken .1 .0))
             (command s h) (look-again s h v)
@@ -148,7 +148,7 @@ module _ (s : Settings) where
               (event-alike f m h one (sym (event-instant e n h)) k (same-back k one h (event-other e n h k d)))
 
   -- all is the same after the two
-  swapped-moment : (h : History) → Valid s h → (e f : Event) (n m : ℕ) → OneWay (leavesAt e) (leavesAt f) → n ≢ m →
+  swapped-moment : (h : History) → Valid s h → (e f : Event) (n m : ℕ) → OneWay (placeAfter e) (placeAfter f) → n ≢ m →
       (taken : AllTaken s h (eventStep e n ∷ eventStep f m ∷ [])) →
       SameMoment s (eventStep e n ∷ eventStep f m ∷ h) (eventStep f m ∷ eventStep e n ∷ h)
   swapped-moment h v e f n m way apart taken =
@@ -161,7 +161,7 @@ module _ (s : Settings) where
         arm = x (eventStep f m ∷ h) .0 ∙ y h .0 ∙ sym (x h .0) ∙ sym (y (eventStep e n ∷ h) .0);
         previous = x (eventStep f m ∷ h) .1 ∙ y h .1 ∙ sym (x h .1) ∙ sym (y (eventStep e n ∷ h) .1);
         command =
-            last-command h v f e m n (other-way (leavesAt e) (leavesAt f) way) (swapped-taken h v e f n m way taken apart)
+            last-command h v f e m n (other-way (placeAfter e) (placeAfter f) way) (swapped-taken h v e f n m way taken apart)
             ∙ look-same s (eventStep e n ∷ eventStep f m ∷ h) (eventStep f m ∷ eventStep e n ∷ h) trains i (command s h)
             ∙ sym (last-command h v e f n m way taken);
         trains = trains;
@@ -179,7 +179,7 @@ module _ (s : Settings) where
   unfolding history
   history-two x y xs h taken = rw (taken .0, taken .1 .0)
 
-module _ (s : Settings) (before : List Step) (e f : Event) (n m : ℕ) (rest : List Step) (apart : n ≢ m) (way : OneWay (leavesAt e) (leavesAt f))
+module _ (s : Settings) (before : List Step) (e f : Event) (n m : ℕ) (rest : List Step) (apart : n ≢ m) (way : OneWay (placeAfter e) (placeAfter f))
     (taken : AllTaken s (history s [] before) (eventStep e n ∷ eventStep f m ∷ [])) where
   abbrev x : Step
   x = eventStep e n
@@ -208,7 +208,7 @@ module _ (s : Settings) (before : List Step) (e f : Event) (n m : ℕ) (rest : L
 
   between : commandsGiven (orders s start (y ∷ x ∷ [])) ≡ commandsGiven (orders s start (x ∷ y ∷ []))
   between =
-      both-given s start v f e m n (other-way (leavesAt e) (leavesAt f) way) back
+      both-given s start v f e m n (other-way (placeAfter e) (placeAfter f) way) back
       ∙ ap (λ (k : Command). commandsGiven (given (command s start) k ∷ [])) (swapped-moment s start v e f n m way apart taken .command)
       ∙ sym (both-given s start v e f n m way taken)
 
@@ -253,5 +253,5 @@ module _ (s : Settings) (before : List Step) (e f : Event) (n m : ℕ) (rest : L
 
 pub swap : Swap
 swap s accepted before e f n m rest apart allowed taken =
-    let way = one-way (leavesAt e) (leavesAt f) allowed in
+    let way = one-way (placeAfter e) (placeAfter f) allowed in
     (rules s before e f n m rest apart way taken, built s before e f n m rest apart way taken)

@@ -27,19 +27,19 @@ use Rattle.runs.specs.Letters.{eventStep}
 
 -- ---- the pair that is excepted
 
--- where an event leaves the train that it names
-abbrev pub leavesAt : Event → Place
-leavesAt events.Approach = coming
-leavesAt events.Occupy = inside
-leavesAt events.Leave = away
+-- where the train that an event names is after it
+abbrev pub placeAfter : Event → Place
+placeAfter events.Approach = coming
+placeAfter events.Occupy = inside
+placeAfter events.Leave = away
 
--- one train comes and another goes, by where two events leave their trains
+-- one train comes and another goes, by where the trains of two events are after them
 abbrev pub comesAndGoes : Place → Place → Bool
 comesAndGoes p q = (isComing p && isAway q) || (isAway p && isComing q)
 
 -- the pair of an approach and a leave
 abbrev pub excepted : Event → Event → Bool
-excepted e f = comesAndGoes (leavesAt e) (leavesAt f)
+excepted e f = comesAndGoes (placeAfter e) (placeAfter f)
 
 -- ---- what is the same
 
@@ -70,6 +70,13 @@ commandsGiven (Nothing ∷ given) = commandsGiven given
 commandsGiven (Lower ∷ given) = Lower ∷ commandsGiven given
 commandsGiven (Raise ∷ given) = Raise ∷ commandsGiven given
 
+-- the bench as built after a list from fresh, and what it answers to the steps that follow
+abbrev pub benchAt : Settings → List Step → Bench
+benchAt s xs = benchAfter (freshBench s) xs
+
+abbrev pub answersFrom : Settings → List Step → List Step → List Answer
+answersFrom s xs ys = benchAnswers (benchAt s xs) ys
+
 -- ---- the list, and the list with x and y swapped
 module _ (s : Settings) (before : List Step) (x y : Step) (rest : List Step) where
   -- the two, and as many steps of the rest
@@ -92,17 +99,11 @@ module _ (s : Settings) (before : List Step) (x y : Step) (rest : List Step) whe
     pub commands : orders s (history s [] (swapped 0)) rest ≡ orders s (history s [] (asHanded 0)) rest
 
   -- the bench as built, run through both lists
-  abbrev pub benchAt : List Step → Bench
-  benchAt xs = benchAfter (freshBench s) xs
-
-  abbrev pub answersFrom : List Step → List Step → List Answer
-  answersFrom xs ys = benchAnswers (benchAt xs) ys
-
   pub record SameBuilt : Type 0 where
-    pub accepted : map numberOf (answersFrom before (y ∷ x ∷ [])) ≡ 0 ∷ 0 ∷ []
-    pub between : commandsGiven (map orderOf (answersFrom before (y ∷ x ∷ []))) ≡ commandsGiven (map orderOf (answersFrom before (x ∷ y ∷ [])))
-    pub moments : (i : ℕ) → SameBench (benchAt (swapped i)) (benchAt (asHanded i))
-    pub answers : answersFrom (swapped 0) rest ≡ answersFrom (asHanded 0) rest
+    pub accepted : map numberOf (answersFrom s before (y ∷ x ∷ [])) ≡ 0 ∷ 0 ∷ []
+    pub between : commandsGiven (map orderOf (answersFrom s before (y ∷ x ∷ []))) ≡ commandsGiven (map orderOf (answersFrom s before (x ∷ y ∷ [])))
+    pub moments : (i : ℕ) → SameBench (benchAt s (swapped i)) (benchAt s (asHanded i))
+    pub answers : answersFrom s (swapped 0) rest ≡ answersFrom s (asHanded 0) rest
 
 -- ---- the statement
 
