@@ -31,11 +31,6 @@ module _ (n t m u : ℕ) where
       go false false r e f g k = (ltb-false t u e, λ s. absurd (eqb-false t u f s))
 
 -- ---- nobody is the unit
-pub earlier-nobody : (f : First) → earlierOf f Nobody ≡ f
-unfolding earlierOf
-earlier-nobody Nobody = refl
-earlier-nobody (Train n t) = refl
-
 pub nobody-earlier : (f : First) → earlierOf Nobody f ≡ f
 unfolding earlierOf
 nobody-earlier f = refl

@@ -84,10 +84,14 @@ loop-less c = search needs
 
 loop-again : tie.Need-loop-again Inv-loop μ-loop
 loop-again c =
-    let k = c .before .before .before .before .loop in
-    let a = c .before .before .before .before .before .before .before .before .before .before .before .before in
-    let e = c .before .before .standing-of .ensures in
-    writing-next (a .args .b .table) _ (four-long (a .args .state .now) _ _ _ _ (a .pre)) (k .state) (k .n) (k .i) (k .inv) (c .before .before .before .loop-test .taken) _ _ (c .before .standing-number .ensures ∙ ap standingNumber e) (c .since-of .ensures ∙ ap since e)
+    let at-standing-of = c .before .before in
+    let at-loop-test = at-standing-of .before in
+    let at-loop = at-loop-test .before in
+    let a = at-loop .before .before .before .before .before .before .before .before in
+    let k = at-loop .loop in
+    let e = at-standing-of .standing-of .ensures in
+    writing-next (a .args .b .table) _ (four-long (a .args .state .now) _ _ _ _ (a .pre)) (k .state) (k .n) (k .i) (k .inv)
+    (at-loop-test .loop-test .taken) _ _ (c .before .standing-number .ensures ∙ ap standingNumber e) (c .since-of .ensures ∙ ap since e)
 
 same-length : tie.Need-same-length Inv-loop μ-loop
 same-length c =

@@ -98,10 +98,13 @@ loop-less-2 c =
 
 loop-again-2 : tie.Need-loop-again-2 Inv-loop μ-loop
 loop-again-2 c =
-    let chosen = c .before .before .before .before .before .before in
+    let at-write-stretch2 = c .before .before .before in
+    let at-if2 = at-write-stretch2 .before .before in
+    let chosen = at-if2 .before in
     let loop = chosen .before .before .before .before .loop in
     let start = chosen .before .before .before .before .before .before .before .before .before .before .before in
-    λ space. merging-o _ _ space _ _ _ _ (loop .inv space) (chosen .before .if1 .taken) (sym (chosen .comes-first .ensures) ∙ c .before .before .before .before .before .if2 .left) _ (c .before .before .before .write-stretch2 .ensures) _ (c .next-occupied2 .ensures)
+    λ space. merging-o _ _ space _ _ _ _ (loop .inv space) (chosen .before .if1 .taken) (sym (chosen .comes-first .ensures) ∙ at-if2 .if2 .left) _
+    (at-write-stretch2 .write-stretch2 .ensures) _ (c .next-occupied2 .ensures)
 
 same-length : tie.Need-same-length Inv-loop μ-loop
 same-length c =

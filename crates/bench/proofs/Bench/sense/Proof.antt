@@ -27,11 +27,35 @@ enum-told-2 c = search needs
 
 returns : tie.Need-returns
 unfolding sensed
-returns c = simp (← (c .put .ensures), c .before .before .enum-told .given .1, ← (c .before .before .before .before .sense .ensures), ← (c .before .before .before .before .before .ask .ensures), ← (c .before .before .before .before .before .before .first-for .ensures), ← (c .before .before .before .before .before .before .before .question-for .ensures))
+returns c =
+    let at-enum-told = c .before .before in
+    let at-sense = at-enum-told .before .before in
+    let at-ask = at-sense .before in
+    let at-first-for = at-ask .before in
+    let at-question-for = at-first-for .before in
+    simp (
+      ← (c .put .ensures),
+      at-enum-told .enum-told .given .1,
+      ← (at-sense .sense .ensures),
+      ← (at-ask .ask .ensures),
+      ← (at-first-for .first-for .ensures),
+      ← (at-question-for .question-for .ensures),
+    )
 
 returns-2 : tie.Need-returns-2
 unfolding sensed
-returns-2 c = simp (c .enum-told2 .given .1, ← (c .before .before .sense .ensures), ← (c .before .before .before .ask .ensures), ← (c .before .before .before .before .first-for .ensures), ← (c .before .before .before .before .before .question-for .ensures))
+returns-2 c =
+    let at-sense = c .before .before in
+    let at-ask = at-sense .before in
+    let at-first-for = at-ask .before in
+    let at-question-for = at-first-for .before in
+    simp (
+      c .enum-told2 .given .1,
+      ← (at-sense .sense .ensures),
+      ← (at-ask .ask .ensures),
+      ← (at-first-for .first-for .ensures),
+      ← (at-question-for .question-for .ensures),
+    )
 
 pub sense-spec : {M : Type 1} → statement M
 sense-spec =

@@ -25,7 +25,21 @@ look-requires c κs = search needs
 
 returns : tie.Need-returns
 unfolding headApproached
-returns c = simp (← (c .look .ensures), ← (c .before .earlier2 .ensures), ← (c .before .before .own2 .ensures), ← (c .before .before .before .earlier .ensures), ← (c .before .before .before .before .own .ensures), c .before .before .before .before .before .if1 .taken, ← (c .before .before .before .before .before .before .approach-refusal .ensures))
+returns c =
+    let at-own2 = c .before .before in
+    let at-earlier = at-own2 .before in
+    let at-own = at-earlier .before in
+    let at-if1 = at-own .before in
+    let at-approach-refusal = at-if1 .before in
+    simp (
+      ← (c .look .ensures),
+      ← (c .before .earlier2 .ensures),
+      ← (at-own2 .own2 .ensures),
+      ← (at-earlier .earlier .ensures),
+      ← (at-own .own .ensures),
+      at-if1 .if1 .taken,
+      ← (at-approach-refusal .approach-refusal .ensures),
+    )
 
 unsensed-requires : tie.Need-unsensed-requires
 unsensed-requires c κs = search needs

@@ -30,15 +30,48 @@ enum-told c = search needs
 
 returns-3 : tie.Need-returns-3
 unfolding clockRefusal
-returns-3 c = simp (lt-leb _ _ (c .if3 .taken), c .before .before .r .given .1, c .before .before .before .before .before .before .if2 .left, ← (c .before .before .before .before .before .before .before .reached .ensures), lt-leb _ _ (c .before .before .before .before .before .before .before .before .before .if1 .left))
+returns-3 c =
+    let at-r = c .before .before in
+    let at-if2 = at-r .before .before .before .before in
+    let at-reached = at-if2 .before in
+    let at-if1 = at-reached .before .before in
+    simp (lt-leb _ _ (c .if3 .taken), at-r .r .given .1, at-if2 .if2 .left, ← (at-reached .reached .ensures), lt-leb _ _ (at-if1 .if1 .left))
 
 returns-4 : tie.Need-returns-4
 unfolding clockRefusal
-returns-4 c = simp (c .if4 .taken, ← (c .before .may-move .ensures), le-leb _ _ (c .before .before .if3 .left), c .before .before .before .before .r .given .1, c .before .before .before .before .before .before .before .before .if2 .left, ← (c .before .before .before .before .before .before .before .before .before .reached .ensures), lt-leb _ _ (c .before .before .before .before .before .before .before .before .before .before .before .if1 .left))
+returns-4 c =
+    let at-if3 = c .before .before in
+    let at-r = at-if3 .before .before in
+    let at-if2 = at-r .before .before .before .before in
+    let at-reached = at-if2 .before in
+    let at-if1 = at-reached .before .before in
+    simp (
+      c .if4 .taken,
+      ← (c .before .may-move .ensures),
+      le-leb _ _ (at-if3 .if3 .left),
+      at-r .r .given .1,
+      at-if2 .if2 .left,
+      ← (at-reached .reached .ensures),
+      lt-leb _ _ (at-if1 .if1 .left),
+    )
 
 returns-5 : tie.Need-returns-5
 unfolding clockRefusal
-returns-5 c = simp (c .if4 .left, ← (c .before .may-move .ensures), le-leb _ _ (c .before .before .if3 .left), c .before .before .before .before .r .given .1, c .before .before .before .before .before .before .before .before .if2 .left, ← (c .before .before .before .before .before .before .before .before .before .reached .ensures), lt-leb _ _ (c .before .before .before .before .before .before .before .before .before .before .before .if1 .left))
+returns-5 c =
+    let at-if3 = c .before .before in
+    let at-r = at-if3 .before .before in
+    let at-if2 = at-r .before .before .before .before in
+    let at-reached = at-if2 .before in
+    let at-if1 = at-reached .before .before in
+    simp (
+      c .if4 .left,
+      ← (c .before .may-move .ensures),
+      le-leb _ _ (at-if3 .if3 .left),
+      at-r .r .given .1,
+      at-if2 .if2 .left,
+      ← (at-reached .reached .ensures),
+      lt-leb _ _ (at-if1 .if1 .left),
+    )
 
 returns-6 : tie.Need-returns-6
 unfolding clockRefusal
