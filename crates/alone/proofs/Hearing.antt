@@ -4,7 +4,7 @@ use native.Mathlib.Numerals.{add-one}
 use native.Mathlib.Omega.{arith}
 use mathlib.Core.Path.{_≡_, refl, sym, ap, _∙_}
 use mathlib.Core.Bool.{true, false≢true}
-use mathlib.Core.List.{List, [], _∷_}
+use mathlib.Core.List.{List, [], _∷_, _++_}
 use lib.ListN.{length, drop, getD, set, drop-of-length-le}
 use lib.Seq.{drop-cons}
 use Rattle.settings.specs.declared.Settings.{Settings}
@@ -22,34 +22,18 @@ use Rattle.runs.specs.Run.{answerByte, Beside, WentThrough}
 use Rattle.runs.proofs.Slices.{letter-at}
 use Rattle.runs.proofs.Through.{Went, went-start, went-next, went-end}
 use Rattle.alone.specs.declared.Ended.{Ended}
-use Rattle.alone.specs.Alone.{withHeard, heardOf, heardStep, AloneRan}
+use Rattle.alone.specs.Alone.{heardBy, heardOf, hearing, AloneRan}
 
 -- ---- letters
 
--- what a letter that is heard stands for (ticking, without meaning, for another)
-abbrev heardAs : Letter → ℕ → Heard
-heardAs (letter.Event events.Approach) n = approaching n
-heardAs (letter.Event events.Occupy) n = ticking
-heardAs (letter.Event events.Leave) n = leaving n
-heardAs letter.Clock n = ticking
-heardAs (letter.Command k) n = ticking
-heardAs letter.None n = ticking
-
-heard-with : (w : Letter) (n : ℕ) (xs : List Heard) → isHeard w ≡ true → withHeard w n xs ≡ heardAs w n ∷ xs
-heard-with (letter.Event events.Approach) n xs h = refl
-heard-with (letter.Event events.Occupy) n xs h = absurd (false≢true h)
-heard-with (letter.Event events.Leave) n xs h = refl
-heard-with letter.Clock n xs h = refl
-heard-with (letter.Command k) n xs h = absurd (false≢true h)
-heard-with letter.None n xs h = absurd (false≢true h)
-
-heard-steps : (c : Cabinet) (w : Letter) (n : ℕ) → isHeard w ≡ true → heardStep c w n ≡ cabinetStepped c (heardAs w n)
-heard-steps c (letter.Event events.Approach) n h = refl
-heard-steps c (letter.Event events.Occupy) n h = absurd (false≢true h)
-heard-steps c (letter.Event events.Leave) n h = refl
-heard-steps c letter.Clock n h = refl
-heard-steps c (letter.Command k) n h = absurd (false≢true h)
-heard-steps c letter.None n h = absurd (false≢true h)
+-- a letter that is heard stands for one thing
+heard-one : (w : Letter) (n : ℕ) → isHeard w ≡ true → (x : Heard) × (heardBy w n ≡ x ∷ [])
+heard-one (letter.Event events.Approach) n h = (approaching n, refl)
+heard-one (letter.Event events.Occupy) n h = absurd (false≢true h)
+heard-one (letter.Event events.Leave) n h = (leaving n, refl)
+heard-one letter.Clock n h = (ticking, refl)
+heard-one (letter.Command k) n h = absurd (false≢true h)
+heard-one letter.None n h = absurd (false≢true h)
 
 -- ---- the list from place i on
 
@@ -57,7 +41,7 @@ abbrev pub heardFrom : List ℕ → List ℕ → ℕ → List Heard
 heardFrom ls ns i = heardOf (drop i ls) (drop i ns)
 
 heard-next : (ls ns : List ℕ) (i : ℕ) → i < length ls → i < length ns →
-    heardFrom ls ns i ≡ withHeard (letterOf (getD ls i 0)) (getD ns i 0) (heardFrom ls ns (i + 1))
+    heardFrom ls ns i ≡ heardBy (letterOf (getD ls i 0)) (getD ns i 0) ++ heardFrom ls ns (i + 1)
 unfolding heardOf
 heard-next ls ns i a b = rw (add-one, drop-cons ls i 0 a, drop-cons ns i 0 b)
 
@@ -79,17 +63,14 @@ module _ {ls ns answers₀ orders₀ : List ℕ} {first : Cabinet}
     (long : Beside ToCabinet ls (length ns) (length ns) (length answers₀) (length orders₀))
     {answers orders : List ℕ} {c : Cabinet} {i : ℕ} (t : Hearing ls ns answers₀ orders₀ first answers orders c i) where
   -- a turn: the letter as read, and what the cabinet makes of it
-  pub hearing-next : i < length ls → {w : Letter} → w ≡ letterOf (getD ls i 0) → {m : Stepped} → m ≡ heardStep c w (getD ns i 0) →
+  pub hearing-next : i < length ls → {w : Letter} → w ≡ letterOf (getD ls i 0) → {m : Stepped} → m ≡ hearing c (heardBy w (getD ns i 0)) →
       {u v : ℕ} → u ≡ numberOf (m .answer) → v ≡ answerByte (m .answer) →
       Hearing ls ns answers₀ orders₀ first (set answers i u) (set orders i v) (m .cabinet) (i + 1)
   hearing-next less {w} is {m} e p q =
-      let heard : isHeard w ≡ true = ap isHeard is ∙ letter-at ToCabinet ls i (long .belong) less in
-      let step : m ≡ cabinetStepped c (heardAs w (getD ns i 0)) = e ∙ heard-steps c w (getD ns i 0) heard in
-      let rest =
-      heard-next ls ns i less (omega (arith, long .byNumbers))
-      ∙ ap (λ (x : Letter). withHeard x (getD ns i 0) (heardFrom ls ns (i + 1))) (sym is)
-      ∙ heard-with w (getD ns i 0) _ heard
-      in
+      let one = heard-one w (getD ns i 0) (ap isHeard is ∙ letter-at ToCabinet ls i (long .belong) less) in
+      let step : m ≡ cabinetStepped c (one .0) = e ∙ ap (hearing c) (one .1) in
+      let by : heardBy (letterOf (getD ls i 0)) (getD ns i 0) ≡ one .0 ∷ [] = ap (λ (v : Letter). heardBy v (getD ns i 0)) (sym is) ∙ one .1 in
+      let rest = heard-next ls ns i less (omega (arith, long .byNumbers)) ∙ ap (λ (xs : List Heard). xs ++ heardFrom ls ns (i + 1)) by in
       record {
         went = went-next (t .went) (long .byAnswers) (long .byOrders) less rest
             (ap (λ (g : Stepped). g .cabinet) step) (rw step at p) (rw step at q);

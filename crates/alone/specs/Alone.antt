@@ -3,46 +3,42 @@
 -- with any other letter is refused as a whole, 15, and slices that are shorter than the letters, 14, after it. Assumes nothing.
 use Prim.Native.Nat.{ℕ, zero, suc}
 use mathlib.Core.Path.{_≡_}
-use mathlib.Core.List.{List, [], _∷_, map}
+use mathlib.Core.List.{List, [], _∷_, _++_, map}
 use Rattle.settings.specs.declared.Settings.{Settings}
 use Rattle.settings.specs.declared.Verdict.the-variants.{Taken, Refused}
 use Rattle.cabinet.specs.declared.Cabinet.{Cabinet}
 use Rattle.cabinet.specs.declared.Stepped.{Stepped}
-use Rattle.cabinet.specs.Cabinet.{numberOf, freshCabinet, approached, left, clocked, refused}
+use Rattle.cabinet.specs.Cabinet.{numberOf, freshCabinet, refused}
 use Rattle.bench.specs.declared.Event.the-variants as events
 use Rattle.runs.specs.declared.Feed.the-variants.{ToCabinet}
 use Rattle.runs.specs.declared.Letter.{Letter}
 use Rattle.runs.specs.declared.Letter.the-variants as letter
 use Rattle.runs.specs.Letters.{letterOf}
-use Rattle.runs.specs.Claims.{Heard, approaching, leaving, ticking, cabinetAfter, cabinetAnswers}
+use Rattle.runs.specs.Claims.{Heard, approaching, leaving, ticking, cabinetStepped, cabinetAfter, cabinetAnswers}
 use Rattle.runs.specs.Run.{answerByte, runRefusal, unlessRefused}
 use Rattle.alone.specs.declared.Ended.{Ended}
 
 -- ---- the list
 
--- a list with what a letter stands for before it, with this train number; no other letter adds anything
-abbrev pub withHeard : Letter → ℕ → List Heard → List Heard
-withHeard (letter.Event events.Approach) n xs = approaching n ∷ xs
-withHeard (letter.Event events.Occupy) n xs = xs
-withHeard (letter.Event events.Leave) n xs = leaving n ∷ xs
-withHeard letter.Clock n xs = ticking ∷ xs
-withHeard (letter.Command k) n xs = xs
-withHeard letter.None n xs = xs
+-- what a letter stands for, with this train number: one thing that a cabinet hears, or nothing
+abbrev pub heardBy : Letter → ℕ → List Heard
+heardBy (letter.Event events.Approach) n = approaching n ∷ []
+heardBy (letter.Event events.Occupy) n = []
+heardBy (letter.Event events.Leave) n = leaving n ∷ []
+heardBy letter.Clock n = ticking ∷ []
+heardBy (letter.Command k) n = []
+heardBy letter.None n = []
 
 -- what the letters stand for, each with the number beside it
 unfoldable pub heardOf : List ℕ → List ℕ → List Heard
 heardOf [] numbers = []
 heardOf (c ∷ letters) [] = []
-heardOf (c ∷ letters) (n ∷ numbers) = withHeard (letterOf c) n (heardOf letters numbers)
+heardOf (c ∷ letters) (n ∷ numbers) = heardBy (letterOf c) n ++ heardOf letters numbers
 
--- what the cabinet makes of a letter, with this train number; one that it does not hear is 15
-abbrev pub heardStep : Cabinet → Letter → ℕ → Stepped
-heardStep c (letter.Event events.Approach) n = approached c n
-heardStep c (letter.Event events.Occupy) n = refused c 15
-heardStep c (letter.Event events.Leave) n = left c n
-heardStep c letter.Clock n = clocked c
-heardStep c (letter.Command k) n = refused c 15
-heardStep c letter.None n = refused c 15
+-- what the cabinet makes of it; a letter that it does not hear would be 15
+abbrev pub hearing : Cabinet → List Heard → Stepped
+hearing c [] = refused c 15
+hearing c (x ∷ xs) = cabinetStepped c x
 
 -- ---- run
 

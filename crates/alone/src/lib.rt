@@ -5,7 +5,7 @@ ghost use Rattle.cabinet.specs.Cabinet.{refused};
 ghost use Rattle.runs.specs.declared.Feed.the-variants.{ToCabinet};
 ghost use Rattle.runs.specs.Claims.{cabinetNext, cabinetAnswer};
 ghost use Rattle.runs.specs.Run.{Beside, WentThrough};
-ghost use Rattle.alone.specs.Alone.{heardStep, heardOf, aloneRefusal, AloneRan};
+ghost use Rattle.alone.specs.Alone.{heardBy, heardOf, hearing, aloneRefusal, AloneRan};
 use bench::Event;
 use cabinet::Answer;
 use cabinet::Cabinet;
@@ -33,7 +33,7 @@ fn unheard(c: Cabinet) -> Stepped
 
 // What the cabinet makes of a letter, with the number beside it.
 fn hear(c: Cabinet, letter: Letter, n: u32) -> Stepped
-    ensures { λ r. ⌜ r ≡ heardStep c letter n ⌝ }
+    ensures { λ r. ⌜ r ≡ hearing c (heardBy letter n) ⌝ }
 {
     match letter {
         Letter::Event(e) => match e {

@@ -217,7 +217,7 @@ record Takes (s : Settings) (h : History) (x : Step) (m : Moved) : Type 0 where
   pub angle : armOf (m .bench) ≡ arm (x ∷ h)
   pub previous : m .bench .head .motion .previous ≡ armBefore (x ∷ h)
 
-unmoved : (k : Command) → given k k ≡ Nothing
+pub unmoved : (k : Command) → given k k ≡ Nothing
 unmoved Up = refl
 unmoved Down = refl
 

@@ -10,10 +10,11 @@ use mathlib.Core.Logic.{_≢_, _⊎_, inl, inr}
 use lib.ListN.{take}
 use Rattle.settings.specs.declared.Settings.{Settings}
 use Rattle.arm.specs.declared.Command.{Command}
-use Rattle.arm.specs.declared.Command.the-variants.{Up, Down}
 use Rattle.bench.specs.declared.Event.{Event}
 use Rattle.bench.specs.declared.Event.the-variants as events
 use Rattle.bench.specs.Bench.{freshBench}
+use Rattle.cabinet.specs.declared.Order.{Order}
+use Rattle.cabinet.specs.declared.Order.the-variants.{Nothing, Lower, Raise}
 use Rattle.cabinet.specs.Cabinet.{numberOf, orderOf}
 use Rattle.runs.specs.declared.Step.{Step}
 use Rattle.runs.specs.declared.Step.the-variants.{Occupy}
@@ -25,7 +26,7 @@ use Rattle.runs.specs.Letters.{eventStep}
 use Rattle.runs.specs.Swap.{placeAfter, comesAndGoes, SameTrain, SameMoment, commandsGiven, SameHistory, SameBuilt, Swap}
 use Rattle.runs.proofs.Invariants.{valid}
 use Rattle.runs.proofs.Looks.{look-again}
-use Rattle.runs.proofs.Agreement.{fresh-match, run-match, run-numbers, run-orders}
+use Rattle.runs.proofs.Agreement.{unmoved, fresh-match, run-match, run-numbers, run-orders}
 use Rattle.runs.proofs.Events.{event-instant, event-arm, same-then, same-back, event-other, event-alike, event-number, stays, stayed}
 use Rattle.runs.proofs.Same.{look-same, history-same, numbers-same, orders-same, answers-same, bench-same}
 use Rattle.runs.proofs.Turn.{OneTurn, all-stay, all-stayed}
@@ -51,18 +52,13 @@ other-way p q (inr z) = inr (z .1, z .0)
 
 -- a command that turns once at most
 given-once : (a b c : Command) → (b ≡ a) ⊎ (b ≡ c) → commandsGiven (given a b ∷ given b c ∷ []) ≡ commandsGiven (given a c ∷ [])
-given-once a b c (inl e) = rw e (stays-first a c)
+given-once a b c (inl e) = rw (e, unmoved a)
+given-once a b c (inr e) = rw (e, unmoved c) (left-out (given a c))
   where
-    stays-first : (a c : Command) → commandsGiven (given a a ∷ given a c ∷ []) ≡ commandsGiven (given a c ∷ [])
-    stays-first Up c = refl
-    stays-first Down c = refl
-given-once a b c (inr e) = rw e (stays-last a c)
-  where
-    stays-last : (a c : Command) → commandsGiven (given a c ∷ given c c ∷ []) ≡ commandsGiven (given a c ∷ [])
-    stays-last Up Up = refl
-    stays-last Up Down = refl
-    stays-last Down Up = refl
-    stays-last Down Down = refl
+    left-out : (o : Order) → commandsGiven (o ∷ Nothing ∷ []) ≡ commandsGiven (o ∷ [])
+    left-out Nothing = refl
+    left-out Lower = refl
+    left-out Raise = refl
 
 module _ (s : Settings) where
   -- ---- two events
