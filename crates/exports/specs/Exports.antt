@@ -1,15 +1,14 @@
 -- What the functions of the static library give: those of `runs`, `alone`, `recording`, `reader` and `report`, by numbers and slices. Assumes nothing.
 use Prim.Native.Nat.{ℕ, zero, suc, _+_, _*_, _%_}
 use mathlib.Core.Path.{_≡_}
-use mathlib.Core.Bool.{Bool, cond}
+use mathlib.Core.Bool.{cond}
 use mathlib.Core.List.{List, [], map}
 use lib.ListN.{length}
 use Rattle.settings.specs.declared.Settings.{Settings}
 use Rattle.settings.specs.Settings.{numberOf}
-use Rattle.runs.specs.declared.Feed.the-variants.{ToBench}
 use Rattle.runs.specs.declared.Step.{Step}
 use Rattle.runs.specs.History as rules
-use Rattle.runs.specs.Run.{orFull, runRefusal, unlessRefused, orderByte}
+use Rattle.runs.specs.Run.{unlessRefused, orderByte}
 use Rattle.runs.specs.Demand.{Demand3}
 use Rattle.runs.specs.Claims.{Heard}
 use Rattle.alone.specs.Alone.{Written}
@@ -33,10 +32,6 @@ pub record Answered (s : Settings) (xs : List Step) (k r : ℕ) (answers answers
 pub record CabinetAnswered (s : Settings) (xs : List Heard) (k r : ℕ) (answers answersAfter orders ordersAfter : List ℕ) : Type 0 where
   pub number : r ≡ k
   pub written : Written s xs k answers answersAfter orders ordersAfter
-
--- the number that refuses a run after which something of the bench is written: the run's own, or 14 last, where there is no space for it
-unfoldable pub shownRefusal : Settings → List ℕ → ℕ → ℕ → ℕ → ℕ → Bool → ℕ
-shownRefusal s letters numbers readings answers orders space = orFull (runRefusal ToBench s letters numbers readings answers orders) space
 
 -- 256 times a count, and a refusal number; the count up to 2 ^ 56
 abbrev pub pack : ℕ → ℕ → ℕ

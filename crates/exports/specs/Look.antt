@@ -16,8 +16,8 @@ use Rattle.bench.specs.declared.Bench.{Bench}
 use Rattle.bench.specs.Bench.{commandOf, armOf, freshBench}
 use Rattle.runs.specs.declared.Step.{Step}
 use Rattle.runs.specs.Steps.{benchAfter}
-use Rattle.runs.specs.Run.{unlessRefused}
-use Rattle.exports.specs.Exports.{Answered, shownRefusal}
+use Rattle.runs.specs.Run.{runRefusalWith, unlessRefused}
+use Rattle.exports.specs.Exports.{Answered}
 
 -- the angle, and its change over the last clock step
 abbrev pub poseNumbers : Pose → List Float
@@ -40,7 +40,7 @@ looks b = gateNumber (gateOf (commandOf b) (armOf b)) ∷ presentIn (b .table) �
 -- the number that refuses a run after which the bench is looked at: 14 where there are fewer than two places in either
 abbrev pub lookRefusal : Settings → List ℕ → ℕ → ℕ → ℕ → ℕ → ℕ → ℕ → ℕ
 lookRefusal s letters numbers readings answers orders pose look =
-    shownRefusal s letters numbers readings answers orders (leb 2 pose && leb 2 look)
+    runRefusalWith s letters numbers readings answers orders (leb 2 pose && leb 2 look)
 
 -- a run of a list xs with this refusal number, and what the bench after it shows written
 pub record LookAnswered (s : Settings) (xs : List Step) (k r : ℕ) (answers answersAfter orders ordersAfter : List ℕ)

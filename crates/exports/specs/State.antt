@@ -15,8 +15,8 @@ use Rattle.bench.specs.declared.Bench.{Bench}
 use Rattle.bench.specs.Bench.{nowOf, commandOf, armOf, freshBench}
 use Rattle.runs.specs.declared.Step.{Step}
 use Rattle.runs.specs.Steps.{benchAfter}
-use Rattle.runs.specs.Run.{unlessRefused}
-use Rattle.exports.specs.Exports.{Answered, shownRefusal}
+use Rattle.runs.specs.Run.{runRefusalWith, unlessRefused}
+use Rattle.exports.specs.Exports.{Answered}
 
 -- 0 up, 1 down
 abbrev pub commandNumber : Command → ℕ
@@ -40,7 +40,7 @@ benchNumbers b = nowOf b ∷ armOf b ∷ b .head .motion .previous ∷ commandNu
 
 -- the number that refuses a run whose bench is written: 14 where there are fewer than 196 places for it
 abbrev pub stateRefusal : Settings → List ℕ → ℕ → ℕ → ℕ → ℕ → ℕ → ℕ
-stateRefusal s letters numbers readings answers orders places = shownRefusal s letters numbers readings answers orders (leb 196 places)
+stateRefusal s letters numbers readings answers orders places = runRefusalWith s letters numbers readings answers orders (leb 196 places)
 
 -- a run of a list xs with this refusal number, and the bench after it written
 pub record StateAnswered (s : Settings) (xs : List Step) (k r : ℕ) (answers answersAfter orders ordersAfter state stateAfter : List ℕ) : Type 0 where

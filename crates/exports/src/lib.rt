@@ -3,7 +3,7 @@ ghost use mathlib.Core.Path.{_≡_};
 ghost use Prim.Native.Nat.{_≤_};
 ghost use lib.ListN.{length};
 ghost use Rattle.runs.specs.declared.Feed.the-variants.{ToBench};
-ghost use Rattle.runs.specs.Run.{stepsOf, over, runRefusal, Ran};
+ghost use Rattle.runs.specs.Run.{stepsOf, over, runRefusal};
 ghost use Rattle.alone.specs.Alone.{heardOf, aloneRefusal};
 ghost use Rattle.recording.specs.RunRecorded.{recordRefusal};
 ghost use Rattle.recorder.specs.Text.{current};
@@ -12,17 +12,14 @@ ghost use Rattle.stretches.specs.declared.Sort.the-variants.{Lowered, Occupied}
 ghost use Rattle.stretches.specs.Walk.{startCursor, nothingFrom, stretchesAhead};
 ghost use Rattle.stretches.specs.Figures.{total};
 ghost use Rattle.report.specs.Report.{reportOf};
-ghost use Rattle.exports.specs.Exports.{settingsOf, Answered, shownRefusal, CabinetAnswered, RecordAnswered, packed, Reports};
+ghost use Rattle.exports.specs.Exports.{settingsOf, Answered, CabinetAnswered, RecordAnswered, packed, Reports};
 ghost use Rattle.exports.specs.State.{commandNumber, standingNumber, benchNumbers, stateRefusal, StateAnswered};
 ghost use Rattle.exports.specs.Look.{poseNumbers, posed, gateNumber, looks, lookRefusal, LookAnswered};
 ghost use Rattle.exports.specs.Places.{cursorOf, cursorIn, flag, foundNumber, nextNumbers, nextFrom, Placed};
 use arm::Command;
 use arm::Gate;
 use bench::Bench;
-use runs::Feed;
-use runs::Finished;
 use settings::Settings;
-use settings::Verdict;
 use stretches::Cursor;
 use stretches::Next;
 use stretches::Sort;
@@ -69,42 +66,6 @@ pub extern "C" fn weqhaso_run(
     let r = runs::run(s, letters, numbers, readings, answers, orders);
     let v = r.verdict;
     settings::number(v)
-}
-
-// A run as `runs::run` does it, where there is space for what is written after it; 14 last.
-fn run_with(
-    s: Settings,
-    letters: &[u8],
-    numbers: &[u32],
-    readings: &[f32],
-    answers: &mut [u8],
-    orders: &mut [u8],
-    space: bool,
-) -> Finished
-    ensures { λ r. ⌜ Ran s (stepsOf (now (letters .entry)) (now (numbers .entry)) (now (readings .entry)))
-        (shownRefusal s (now (letters .entry)) (length (now (numbers .entry))) (length (now (readings .entry)))
-        (length (now (answers .entry))) (length (now (orders .entry))) space)
-        r (now (answers .entry)) (now (answers .exit)) (now (orders .entry)) (now (orders .exit)) ⌝ }
-{
-    let own = runs::run_refusal(
-        Feed::ToBench,
-        s,
-        letters,
-        numbers.len(),
-        readings.len(),
-        answers.len(),
-        orders.len(),
-    );
-    let k = runs::or_full(own, space);
-    if k == 0 {
-        runs::run(s, letters, numbers, readings, answers, orders)
-    } else {
-        let fresh = bench::start(s).bench;
-        Finished {
-            verdict: Verdict::Refused(k),
-            bench: fresh,
-        }
-    }
 }
 
 // 0 up, 1 down.
@@ -180,7 +141,7 @@ pub extern "C" fn weqhaso_state(
 {
     let s = settings_of(e, f, p, q, w, x, y);
     let space = 196 <= state.len();
-    let r = run_with(s, letters, numbers, readings, answers, orders, space);
+    let r = runs::run_with(s, letters, numbers, readings, answers, orders, space);
     let v = r.verdict;
     let k = settings::number(v);
     if k == 0 {
@@ -244,7 +205,7 @@ pub extern "C" fn weqhaso_look(
 {
     let s = settings_of(e, f, p, q, w, x, y);
     let space = (2 <= pose.len()) & (2 <= look.len());
-    let r = run_with(s, letters, numbers, readings, answers, orders, space);
+    let r = runs::run_with(s, letters, numbers, readings, answers, orders, space);
     let v = r.verdict;
     let k = settings::number(v);
     if k == 0 {

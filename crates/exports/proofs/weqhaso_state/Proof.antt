@@ -1,4 +1,4 @@
--- `exports::weqhaso_state` meets its contract: `run_with`, and the bench written where it is taken. Assumes nothing.
+-- `exports::weqhaso_state` meets its contract: `runs::run_with`, and the bench written where it is taken. Assumes nothing.
 use borrow.Author.Tests.{leb-true}
 use Rattle.exports.specs.State.{benchNumbers}
 use Rattle.exports.proofs.Shown.{answered, space-there, shown, unshown}
