@@ -2,8 +2,9 @@
 // (inplace.rs), and keeping the two values that the library keeps beside its table (kept.rs). benchmark/run builds and calls it:
 //
 //   bench                  all three sides answer alike on every input, or it fails; then the times
-//   bench once SIDE INPUT  a round of one side (ours, full, kept, or none: the input is only made) on one input (1, 8, 96, read,
-//                          report, small), for callgrind
+//   bench once SIDE INPUT  a round of one side (ours, full, kept, or none: the input is only made) on one input (1, 8, 96, write,
+//                          read, report, small), for callgrind
+//   bench units INPUT      how many steps, lines or records a round on an input has
 
 mod inplace;
 mod kept;
@@ -33,6 +34,25 @@ extern "C" {
         orders: *mut u8,
         orders_len: usize,
     ) -> u8;
+    fn weqhaso_record(
+        e: u32,
+        f: u32,
+        p: u32,
+        q: u32,
+        w: u32,
+        x: u32,
+        y: u32,
+        letters: *const u8,
+        letters_len: usize,
+        numbers: *const u32,
+        numbers_len: usize,
+        readings: *const f32,
+        readings_len: usize,
+        answers: *mut u8,
+        answers_len: usize,
+        out: *mut u8,
+        out_len: usize,
+    ) -> u64;
     fn weqhaso_read(text: *const u8, len: usize) -> u64;
     fn weqhaso_report(text: *const u8, len: usize, out: *mut u8, out_len: usize) -> u64;
 }
@@ -211,6 +231,64 @@ impl List {
         }
     }
 
+    // Recorded into `out`: as the library packs its answer.
+    fn record(&mut self, side: Side, out: &mut [u8]) -> u64 {
+        match side {
+            Side::Ours => self.ours_recorded(out),
+            Side::Full => self.rust_recorded::<FullLooks>(out),
+            Side::Kept => self.rust_recorded::<Kept>(out),
+        }
+    }
+
+    fn ours_recorded(&mut self, out: &mut [u8]) -> u64 {
+        let [e, f, p, q, w, x, y] = self.settings;
+        unsafe {
+            weqhaso_record(
+                e,
+                f,
+                p,
+                q,
+                w,
+                x,
+                y,
+                self.letters.as_ptr(),
+                self.letters.len(),
+                self.numbers.as_ptr(),
+                self.numbers.len(),
+                self.readings.as_ptr(),
+                self.readings.len(),
+                self.answers.as_mut_ptr(),
+                self.answers.len(),
+                out.as_mut_ptr(),
+                out.len(),
+            )
+        }
+    }
+
+    fn rust_recorded<L: Looks + Clone>(&mut self, out: &mut [u8]) -> u64 {
+        inplace::record::<L>(
+            black_box(&self.settings),
+            black_box(&self.letters),
+            &self.numbers,
+            &self.readings,
+            &mut self.answers,
+            out,
+        )
+    }
+
+    // With space for all of its record, just so much, and less.
+    fn check_same_recorded(&mut self, out: &mut [u8]) {
+        let bytes = self.record(Side::Full, out) as usize / 256;
+        for len in [bytes + 1, bytes, bytes - 1, bytes / 2, 9 * LINE, 9 * LINE - 1, 0] {
+            let [ours, full, kept] = SIDES.map(|side| {
+                let mut out = vec![99; len];
+                self.answers.fill(99);
+                (self.record(side, &mut out), self.answers.clone(), out)
+            });
+            assert!(ours == full && ours == kept, "recordings differ in {len} bytes");
+        }
+    }
+
     fn check_same(&mut self) {
         let answered = SIDES.map(|side| {
             self.answers.fill(99);
@@ -348,6 +426,8 @@ impl Text {
 
 enum Input {
     Steps(List),
+    // a list, and the place for its record
+    Write(List, Vec<u8>),
     Read(Text),
     Report(Text),
 }
@@ -355,16 +435,18 @@ enum Input {
 impl Input {
     fn named(name: &str) -> Input {
         match name {
+            "write" => Input::Write(List::new(8), vec![0; LINE * (9 + 2 * STEPS)]),
             "read" => Input::Read(Text::new(record(), RECORDS_A_ROUND)),
             "report" => Input::Report(Text::new(record(), RECORDS_A_ROUND)),
             "small" => Input::Report(Text::new(SMALL.to_vec(), SMALL_A_ROUND)),
-            many => Input::Steps(List::new(many.parse().expect("1, 8, 96, read, report or small"))),
+            many => Input::Steps(List::new(many.parse().expect("1, 8, 96, write, read, report or small"))),
         }
     }
 
     fn check_same(&mut self) {
         match self {
             Input::Steps(list) => list.check_same(),
+            Input::Write(list, out) => list.check_same_recorded(out),
             Input::Read(text) | Input::Report(text) => check_same_reports(&text.bytes),
         }
     }
@@ -372,14 +454,16 @@ impl Input {
     fn says(&mut self) -> String {
         match self {
             Input::Steps(list) => list.says(),
+            Input::Write(..) => format!("{STEPS} steps, {} lines", self.units()),
             Input::Read(text) | Input::Report(text) => text.says(),
         }
     }
 
-    // The steps or records of a round.
-    fn units(&self) -> usize {
+    // The steps, lines or records of a round.
+    fn units(&mut self) -> usize {
         match self {
             Input::Steps(_) => STEPS,
+            Input::Write(list, out) => list.record(Side::Full, out) as usize / 256 / LINE,
             Input::Read(text) | Input::Report(text) => text.times,
         }
     }
@@ -388,6 +472,9 @@ impl Input {
         match self {
             Input::Steps(list) => {
                 black_box(list.run(side));
+            }
+            Input::Write(list, out) => {
+                black_box(list.record(side, out));
             }
             Input::Read(text) => text.read(side),
             Input::Report(text) => text.report(side),
@@ -417,6 +504,7 @@ fn measure() {
         ("steps, 1 present", Input::named("1")),
         ("steps, 8 present", Input::named("8")),
         ("steps, 96 present", Input::named("96")),
+        ("lines of a record written, 8 present", Input::named("write")),
         ("records of 65,520 bytes read", Input::named("read")),
         ("records of 65,520 bytes read and reported", Input::named("report")),
         ("small records read and reported", Input::named("small")),
@@ -432,7 +520,8 @@ fn measure() {
     let [ours, full, kept, by_full, by_kept] = ["ours", "full looks", "kept", "by full", "by kept"];
     println!("\n{:<43}{ours:>12}{full:>12}{kept:>12}{by_full:>10}{by_kept:>10}", "a second, median; ratios of time");
     for (what, input) in &mut inputs {
-        let [ours, full, kept] = input.medians().map(|seconds| input.units() as f64 / seconds);
+        let units = input.units() as f64;
+        let [ours, full, kept] = input.medians().map(|seconds| units / seconds);
         println!("{what:<43}{ours:>12.0}{full:>12.0}{kept:>12.0}{:>10.2}{:>10.2}", full / ours, kept / ours);
     }
 }
@@ -453,6 +542,7 @@ fn main() {
     match words.iter().map(String::as_str).collect::<Vec<_>>()[..] {
         [] => measure(),
         ["once", side, input] => once(side, input),
-        _ => panic!("bench | bench once SIDE INPUT"),
+        ["units", input] => println!("{}", Input::named(input).units()),
+        _ => panic!("bench | bench once SIDE INPUT | bench units INPUT"),
     }
 }

@@ -7,7 +7,7 @@ use crate::inplace::{Looks, Standing, Trains};
 // An instant and the train that is first to reach it, of equals the lowest number: the least of such pairs.
 type First = Option<(u32, u32)>;
 
-#[derive(Default)]
+#[derive(Clone, Default)]
 pub struct Kept {
     soonest: First,
     latest: First,
