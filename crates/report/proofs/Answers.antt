@@ -8,6 +8,7 @@ use borrow.Author.Tests.{le-leb, lt-leb}
 use Rattle.settings.specs.declared.Verdict.the-variants.{Taken}
 use Rattle.lines.specs.Bytes.{splice}
 use Rattle.lines.proofs.Splices.{splice-then}
+use Rattle.lines.proofs.Places.{wrote-only, kept-only}
 use Rattle.recorder.specs.Text.{current}
 use Rattle.reader.specs.Read.{readText}
 use Rattle.reader.specs.Round.{runOf}
@@ -27,10 +28,12 @@ use Rattle.report.proofs.Merge.{rows-bytes}
 
 module _ (lines out : List ℕ) (n : ℕ) (long : length lines ≡ n) where
   pub written-done : n ≤ length out → (r : Reported) → r ≡ writtenBytes n → (after : List ℕ) → after ≡ splice out 0 lines → ReportWritten lines out r after
-  written-done h r p after q = let f = le-leb (0 + length lines) (length out) (omega arith) in record { gives = rw f (p ∙ ap writtenBytes (sym long)); left = rw f q }
+  written-done h r p after q =
+      let f = le-leb (0 + length lines) (length out) (omega arith) in
+      record { gives = rw f (p ∙ ap writtenBytes (sym long)); left = rw f q; only = rw f (wrote-only out 0 lines (omega arith) q) }
 
   pub written-none : length out < n → (r : Reported) → r ≡ shortBuffer → ReportWritten lines out r out
-  written-none h r p = let f = lt-leb (0 + length lines) (length out) (omega arith) in record { gives = rw f p; left = rw f }
+  written-none h r p = let f = lt-leb (0 + length lines) (length out) (omega arith) in record { gives = rw f p; left = rw f; only = rw f (kept-only out 0 lines) }
 
 -- the same lines by another name
 pub written-as : {lines same out after : List ℕ} {r : Reported} → lines ≡ same → ReportWritten lines out r after → ReportWritten same out r after

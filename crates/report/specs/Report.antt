@@ -9,6 +9,7 @@ use lib.ListN.{length}
 use Rattle.settings.specs.declared.Verdict.{Verdict}
 use Rattle.settings.specs.declared.Verdict.the-variants.{Taken, Refused}
 use Rattle.lines.specs.Numeral.{numeral}
+use Rattle.lines.specs.Place.{WritesOnly}
 use Rattle.lines.specs.Bytes.{fits, splice}
 use Rattle.runs.specs.declared.Step.{Step}
 use Rattle.recorder.specs.Text.{current}
@@ -83,7 +84,8 @@ writtenBytes n = record { verdict = Taken; line = 0; bytes = n }
 abbrev pub shortBuffer : Reported
 shortBuffer = record { verdict = Refused 14; line = 0; bytes = 0 }
 
--- the lines from the buffer's first byte on and all else as it was; or all as it was
+-- the lines from the buffer's first byte on and all else as it was; or all as it was; byte by byte, the lines in their place and no other byte
 pub record ReportWritten (lines out : List ℕ) (r : Reported) (after : List ℕ) : Type 0 where
   pub gives : r ≡ cond (fits out 0 (length lines)) (writtenBytes (length lines)) shortBuffer
   pub left : after ≡ cond (fits out 0 (length lines)) (splice out 0 lines) out
+  pub only : WritesOnly (fits out 0 (length lines)) out 0 lines after
