@@ -100,6 +100,7 @@ module _ (s : Settings) (xs : List Step) (k : ℕ) (r : Recorded) (answers answe
         number = rw number-is (ap (λ (m : ℕ). pack m k) (count came));
         numbered = ran .numbered;
         bytes = ran .leaves ∙ bytes-recorded s xs d k starts;
+        only = ran .only;
       }
     where
       count : ((n ≡ 0) × (bytes ≡ r .recorder .at + lineBytes current)) ⊎ ((n ≡ 0 → ⊥) × (bytes ≡ 0)) → bytes ≡ bytesOf k (recorded s xs d)
@@ -108,7 +109,7 @@ module _ (s : Settings) (xs : List Step) (k : ℕ) (r : Recorded) (answers answe
 
 -- a report that was answered by its bytes and its number
 pub report-answered : (lines out : List ℕ) (g : Reported) (after : List ℕ) (n : ℕ) → ReportWritten lines out g after → n ≡ numberOf (g .verdict) → Reports lines out (pack (g .bytes) n) after
-report-answered lines out g after n w e = record { number = rw e (ap (λ (x : Reported). pack (x .bytes) (numberOf (x .verdict))) (w .gives) ∙ go (fits out 0 (length lines))); bytes = w .left }
+report-answered lines out g after n w e = record { number = rw e (ap (λ (x : Reported). pack (x .bytes) (numberOf (x .verdict))) (w .gives) ∙ go (fits out 0 (length lines))); bytes = w .left; only = w .only }
   where
     go : (b : Bool) → pack (cond b (writtenBytes (length lines)) shortBuffer .bytes) (numberOf (cond b (writtenBytes (length lines)) shortBuffer .verdict)) ≡ cond b (pack (length lines) 0) 14
     go true = refl

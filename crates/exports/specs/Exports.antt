@@ -3,6 +3,7 @@ use Prim.Native.Nat.{ℕ, zero, suc, _+_, _*_, _%_}
 use mathlib.Core.Path.{_≡_}
 use mathlib.Core.Bool.{cond}
 use mathlib.Core.List.{List, [], map}
+use lib.Dec.{eqb}
 use lib.ListN.{length}
 use Rattle.settings.specs.declared.Settings.{Settings}
 use Rattle.settings.specs.Settings.{numberOf}
@@ -14,6 +15,7 @@ use Rattle.runs.specs.Claims.{Heard}
 use Rattle.alone.specs.Alone.{Written}
 use Rattle.recorder.specs.Text.{current, text}
 use Rattle.recorder.specs.Recording.{stepRefusalsIn, runSoFar}
+use Rattle.lines.specs.Place.{WritesOnly}
 use Rattle.lines.specs.Bytes.{fits, splice}
 use Rattle.reader.specs.declared.Outcome.{Outcome}
 
@@ -43,17 +45,19 @@ bytesOf zero t = length t
 bytesOf (suc k) t = 0
 
 -- a recording of a list xs with this refusal number, in the record d: the record's bytes and the number are answered, what the rules say of the list is
--- written beside it, and the text of its run into the record
+-- written beside it, and the text of its run into the record, no other byte of it
 pub record RecordAnswered (s : Settings) (xs : List Step) (k r : ℕ) (answers answersAfter d e : List ℕ) : Type 0 where
   pub number : r ≡ pack (bytesOf k (text current s (runSoFar s (length d) [] xs))) k
   pub numbered : answersAfter ≡ unlessRefused k (stepRefusalsIn s (length d) [] xs) answers
   pub bytes : e ≡ unlessRefused k (text current s (runSoFar s (length d) [] xs)) d
+  pub only : WritesOnly (eqb k 0) d 0 (text current s (runSoFar s (length d) [] xs)) e
 
 -- the line, and the number
 abbrev pub packed : Outcome → ℕ
 packed o = pack (o .line) (numberOf (o .verdict))
 
--- a report's lines into the buffer: their bytes are answered and written where they fit; or 14 is answered, and the buffer is as it was
+-- a report's lines into the buffer: their bytes are answered and written where they fit, and no other byte; or 14 is answered, and the buffer is as it was
 pub record Reports (lines out : List ℕ) (r : ℕ) (after : List ℕ) : Type 0 where
   pub number : r ≡ cond (fits out 0 (length lines)) (pack (length lines) 0) 14
   pub bytes : after ≡ cond (fits out 0 (length lines)) (splice out 0 lines) out
+  pub only : WritesOnly (fits out 0 (length lines)) out 0 lines after
