@@ -21,7 +21,6 @@ use Rattle.runs.specs.Claims.{Heard, approaching, leaving, ticking, cabinetStep
 use Rattle.runs.specs.Run.{answerByte, Beside, WentThrough}
 use Rattle.runs.proofs.Slices.{letter-at}
 use Rattle.runs.proofs.Through.{Went, went-start, went-next, went-end}
-use Rattle.alone.specs.declared.Ended.{Ended}
 use Rattle.alone.specs.Alone.{heardBy, heardOf, hearing, AloneRan}
 
 -- ---- letters

@@ -21,8 +21,7 @@ use Rattle.trains.specs.Table.{put}
 use Rattle.trains.specs.First.{ownOf, earlierOf, firstIn, restOf}
 use Rattle.trains.proofs.Laws.{fresh-formed, put-formed}
 use Rattle.trains.proofs.Firsts.{own-away, first-same, first-joined, first-rest, first-gone, first-fresh, late-first}
-use Rattle.cabinet.specs.declared.Order.the-variants.{Nothing}
-use Rattle.cabinet.specs.declared.Answer.the-variants.{Taken, Refused}
+use Rattle.cabinet.specs.declared.Answer.the-variants.{Refused}
 use Rattle.cabinet.specs.Cabinet.{lookedAt, later, ticked, approachRefusal}
 use Rattle.cabinet.proofs.Laws.{approach-says}
 use Rattle.cabinet.proofs.Kept.{order-full}

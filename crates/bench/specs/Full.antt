@@ -15,12 +15,10 @@ use Rattle.trains.specs.declared.Standing.the-variants.{Away, Coming, Inside}
 use Rattle.trains.specs.declared.Question.the-variants.{Due, Latest}
 use Rattle.trains.specs.declared.Table.{Table}
 use Rattle.trains.specs.Trains.{since}
-use Rattle.trains.specs.Table.{standingOf, put, dueBy, someLate, WellFormed}
+use Rattle.trains.specs.Table.{put, someLate, WellFormed}
 use Rattle.trains.specs.First.{firstIn}
-use Rattle.cabinet.specs.declared.Order.{Order}
 use Rattle.cabinet.specs.declared.Order.the-variants.{Nothing}
 use Rattle.cabinet.specs.declared.Answer.the-variants.{Taken, Refused}
-use Rattle.cabinet.specs.declared.Control.{Control}
 use Rattle.cabinet.specs.Cabinet.{later, approachRefusal}
 use Rattle.cabinet.specs.Full.{fullLookedAt}
 use Rattle.bench.specs.declared.Event.{Event}

@@ -1,7 +1,7 @@
 -- Case j of document 01: an approach beside a leave, the one way the arm stays down, the other way it is raised. Assumes nothing.
 use native.Mathlib.Omega.{arith}
-use mathlib.Core.Path.{_≡_, refl}
-use mathlib.Core.List.{[], _∷_}
+use mathlib.Core.Path.{refl}
+use mathlib.Core.List.{[]}
 use lib.Ieee.{round}
 use Rattle.settings.specs.Settings.{ticksFor, inRange, settingsRefusal}
 use Rattle.worked.specs.Worked.{K}

@@ -1,5 +1,4 @@
 -- `exports::weqhaso_look` meets its contract: `runs::run_with`, and what the bench shows written where it is taken. Assumes nothing.
-use mathlib.Core.Bool.{_&&_}
 use lib.Dec.{leb}
 use lib.ListN.{length}
 use borrow.Author.Tests.{leb-true}
