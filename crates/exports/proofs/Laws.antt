@@ -5,7 +5,7 @@ use mathlib.Core.Path.{_≡_, refl, sym, ap, _∙_}
 use mathlib.Core.Bool.{Bool, true, false, cond}
 use mathlib.Core.Logic.{_⊎_, inl, inr}
 use mathlib.Core.List.{List, []}
-use lib.ListN.{length, take-append-drop}
+use lib.ListN.{length}
 use Rattle.settings.specs.declared.Settings.{Settings}
 use Rattle.settings.specs.Settings.{numberOf}
 use Rattle.cabinet.specs.declared.Order.the-variants.{Nothing}
@@ -21,9 +21,9 @@ use Rattle.recorder.specs.declared.Recorded.{Recorded}
 use Rattle.lines.specs.Layout.{lineBytes}
 use Rattle.recorder.specs.Text.{current, text}
 use Rattle.recorder.specs.Recorder.{startIn}
-use Rattle.recorder.specs.Recording.{freshRecording, recordedAfter, runSoFar}
+use Rattle.recorder.specs.Recording.{runSoFar}
 use Rattle.recording.specs.RunRecorded.{runGives, runLeaves, RunRecorded}
-use Rattle.recorder.proofs.Recording.{keeps-always, ends-always}
+use Rattle.recorder.proofs.Recording.{spliced-always, ends-always}
 use Rattle.lines.specs.Bytes.{fits}
 use Rattle.report.specs.declared.Reported.{Reported}
 use Rattle.report.specs.Report.{writtenBytes, shortBuffer, ReportWritten}
@@ -71,11 +71,7 @@ module _ (s : Settings) (xs : List Step) (d : List ℕ) where
 
   -- what the record holds is the text, and after it the bytes that were there
   bytes-recorded : (k : ℕ) → (k ≡ 0 → startIn s d ≡ Taken Nothing) → runLeaves k s d xs ≡ unlessRefused k recorded d
-  bytes-recorded zero a =
-      let w = recordedAfter (freshRecording s d) xs in
-      let keeps = keeps-always s d xs (a refl) in
-      let end : w .recorder .at + lineBytes current ≡ length recorded = ends-always s d xs (a refl) .0 in
-      sym (take-append-drop (w .recorder .at + lineBytes current) (w .bytes)) ∙ rw (keeps .written, keeps .others, end)
+  bytes-recorded zero a = let z : 0 + length recorded ≡ length recorded = omega arith in spliced-always s d xs (a refl) ∙ rw z
   bytes-recorded (suc k) a = refl
 
   -- its bytes, or none
