@@ -4,24 +4,24 @@ use Prim.Native.Nat.{ℕ}
 use mathlib.Core.Path.{_≡_, refl, sym, ap, _∙_}
 use mathlib.Core.Bool.{Bool, true, false, cond}
 use lib.Dec.{leb}
+use Rattle.settings.specs.declared.Kind.{Kind}
 use Rattle.settings.specs.declared.Settings.{Settings}
 use Rattle.settings.specs.Refusal.{refuse, unless}
 use Rattle.settings.specs.Settings.{ticksOf}
 use Rattle.settings.proofs.Laws.{unless-has}
-use Rattle.trains.specs.declared.Standing.{Standing}
-use Rattle.trains.specs.declared.Standing.the-variants.{Away, Coming}
+use Rattle.trains.specs.declared.Entry.{Entry}
 use Rattle.trains.specs.declared.First.{First}
 use Rattle.trains.specs.declared.Question.the-variants.{Due}
 use Rattle.trains.specs.declared.Table.{Table}
-use Rattle.trains.specs.Table.{standingOf, put}
-use Rattle.trains.specs.First.{ownOf, earlierOf, firstIn, restOf}
+use Rattle.trains.specs.Table.{awayEntry, entryOf, standingOf, put}
+use Rattle.trains.specs.First.{ownOf, hasOwn, earlierOf, firstIn, restOf}
 use Rattle.trains.proofs.Laws.{fresh-formed, put-formed}
-use Rattle.trains.proofs.Firsts.{own-away, first-joined, first-rest, first-fresh, due-first}
+use Rattle.trains.proofs.Firsts.{own-none, away-none, first-joined, first-rest, first-fresh, due-first}
 use Rattle.cabinet.specs.declared.Answer.the-variants.{Refused}
 use Rattle.cabinet.specs.declared.Control.{Control}
 use Rattle.cabinet.specs.declared.Cabinet.{Cabinet}
 use Rattle.cabinet.specs.declared.Stepped.{Stepped}
-use Rattle.cabinet.specs.Cabinet.{freshCabinet, horizon, order, orderFor, lookedAt, looked, refused, placed, withControl, later, ticked, approachRefusal, leaveRefusal, approached, left, clocked}
+use Rattle.cabinet.specs.Cabinet.{freshCabinet, horizon, order, orderFor, lookedAt, looked, refused, placed, comingNow, withControl, later, ticked, approachRefusal, leaveRefusal, approached, left, clocked}
 use Rattle.cabinet.specs.Full.{Kept, fullOrder, fullLooked, fullPut, fullApproached, fullLeft, fullClocked}
 use Rattle.cabinet.proofs.Laws.{approach-says, leave-says}
 
@@ -37,34 +37,34 @@ pub order-full : (s : Settings) (t : Table) (w : Control) → order s (ticksOf s
 unfolding order
 order-full s t w = ap (orderFor (w .command)) (due-first s t (horizon (w .command) s (ticksOf s) (w .now)))
 
--- a standing put, with this train soonest
-placed-full : (c : Cabinet) → Kept c → (n : ℕ) (standing : Standing) (soonest : First) → soonest ≡ firstIn (c .settings) Due (put (c .table) n standing) →
-    looked (placed c n standing soonest) ≡ fullPut c n standing
+-- an entry put, with this train soonest
+placed-full : (c : Cabinet) → Kept c → (n : ℕ) (entry : Entry) (soonest : First) → soonest ≡ firstIn (c .settings) Due (put (c .table) n entry) →
+    looked (placed c n entry soonest) ≡ fullPut c n entry
 unfolding looked lookedAt
-placed-full c k n standing soonest p = rw (p, k .ticks, order-full (c .settings) (put (c .table) n standing) (c .control))
+placed-full c k n entry soonest p = rw (p, k .ticks, order-full (c .settings) (put (c .table) n entry) (c .control))
 
 -- a step refused or taken
 step-full : (k : ℕ) (c : Cabinet) (gives full : Stepped) → (k ≡ 0 → gives ≡ full) → unless k (refused c) gives ≡ unless k (refused c) full
 step-full k c gives full = unless-has (λ (j : ℕ) (m : Stepped). m ≡ unless j (refused c) full) k (refused c) gives (λ j. refl)
 
 module _ (c : Cabinet) (k : Kept c) where
-  pub approach-full : (n : ℕ) → approached c n ≡ fullApproached c n
+  pub approach-full : (kind : Kind) (n : ℕ) → approached c kind n ≡ fullApproached c kind n
   unfolding approached fullApproached
-  approach-full n =
-      let coming = Coming (c .control .now) in
+  approach-full kind n =
+      let coming = comingNow c kind in
       let own = ownOf (c .settings) Due n in
       step-full (approachRefusal n (standingOf (c .table) n)) c _ (fullPut c n coming)
       (λ ok. let says = approach-says n (standingOf (c .table) n) ok in
       placed-full c k n coming (earlierOf (own coming) (c .soonest))
       (ap (earlierOf (own coming)) (k .soonest)
-      ∙ sym (first-joined (c .settings) Due (c .table) n (k .formed) (says .0) coming (ap own (says .1) ∙ own-away (c .settings) Due n))))
+      ∙ sym (first-joined (c .settings) Due (c .table) n (k .formed) (says .0) coming (own-none (c .settings) Due n (entryOf (c .table) n) (ap (hasOwn Due) (says .1) ∙ away-none Due)))))
 
   pub leave-full : (n : ℕ) → left c n ≡ fullLeft c n
   unfolding left fullLeft
   leave-full n =
       let rest : First → First = λ f. restOf (c .settings) Due f n (c .table) in
-      step-full (leaveRefusal n (standingOf (c .table) n)) c _ (fullPut c n Away)
-      (λ ok. placed-full c k n Away (rest (c .soonest))
+      step-full (leaveRefusal n (standingOf (c .table) n)) c _ (fullPut c n awayEntry)
+      (λ ok. placed-full c k n awayEntry (rest (c .soonest))
       (ap rest (k .soonest) ∙ first-rest (c .settings) Due (c .table) n (k .formed) (leave-says n (standingOf (c .table) n) ok)))
 
   pub clock-full : clocked c ≡ fullClocked c
@@ -83,16 +83,16 @@ module _ (c : Cabinet) (k : Kept c) where
   by-kept : (j : ℕ) (m : Stepped) → Kept (m .cabinet) → Kept (unless j (refused c) m .cabinet)
   by-kept j m l = unless-has (λ (j : ℕ) (m : Stepped). Kept (m .cabinet)) j (refused c) m (λ j. k) (λ z. l)
 
-  put-kept : (n : ℕ) (standing : Standing) → Kept (fullPut c n standing .cabinet)
-  put-kept n standing = record { ticks = refl; formed = put-formed (c .table) n standing (k .formed); soonest = refl }
+  put-kept : (n : ℕ) (entry : Entry) → Kept (fullPut c n entry .cabinet)
+  put-kept n entry = record { ticks = refl; formed = put-formed (c .table) n entry (k .formed); soonest = refl }
 
-  pub approach-kept : (n : ℕ) → Kept (fullApproached c n .cabinet)
+  pub approach-kept : (kind : Kind) (n : ℕ) → Kept (fullApproached c kind n .cabinet)
   unfolding fullApproached
-  approach-kept n = by-kept (approachRefusal n (standingOf (c .table) n)) _ (put-kept n (Coming (c .control .now)))
+  approach-kept kind n = by-kept (approachRefusal n (standingOf (c .table) n)) _ (put-kept n (comingNow c kind))
 
   pub leave-kept : (n : ℕ) → Kept (fullLeft c n .cabinet)
   unfolding fullLeft
-  leave-kept n = by-kept (leaveRefusal n (standingOf (c .table) n)) _ (put-kept n Away)
+  leave-kept n = by-kept (leaveRefusal n (standingOf (c .table) n)) _ (put-kept n awayEntry)
 
   pub clock-kept : Kept (fullClocked c .cabinet)
   unfolding fullClocked

@@ -3,14 +3,14 @@
 use Prim.Native.Nat.{ℕ}
 use mathlib.Core.Path.{_≡_}
 use lib.Dec.{leb}
+use Rattle.settings.specs.declared.Kind.{Kind}
 use Rattle.settings.specs.declared.Settings.{Settings}
 use Rattle.settings.specs.Refusal.{refuse, unless}
 use Rattle.settings.specs.Settings.{ticksOf}
-use Rattle.trains.specs.declared.Standing.{Standing}
-use Rattle.trains.specs.declared.Standing.the-variants.{Away, Coming}
+use Rattle.trains.specs.declared.Entry.{Entry}
 use Rattle.trains.specs.declared.Question.the-variants.{Due}
 use Rattle.trains.specs.declared.Table.{Table}
-use Rattle.trains.specs.Table.{standingOf, put, dueBy, WellFormed}
+use Rattle.trains.specs.Table.{awayEntry, standingOf, put, dueBy, WellFormed}
 use Rattle.trains.specs.First.{firstIn}
 use Rattle.cabinet.specs.declared.Order.{Order}
 use Rattle.cabinet.specs.declared.Answer.the-variants.{Taken}
@@ -18,7 +18,7 @@ use Rattle.cabinet.specs.declared.Control.{Control}
 use Rattle.cabinet.specs.declared.Controlled.{Controlled}
 use Rattle.cabinet.specs.declared.Cabinet.{Cabinet}
 use Rattle.cabinet.specs.declared.Stepped.{Stepped}
-use Rattle.cabinet.specs.Cabinet.{horizon, orderFor, commandAfter, later, refused, approachRefusal, leaveRefusal}
+use Rattle.cabinet.specs.Cabinet.{horizon, orderFor, commandAfter, later, refused, comingNow, approachRefusal, leaveRefusal}
 
 -- what is kept is what settings and table say: D and U, and the soonest due present train, of equals the lowest number
 pub record Kept (c : Cabinet) : Type 0 where
@@ -47,17 +47,17 @@ fullLooked s t w =
 
 -- ---- the steps
 
--- a standing put, and the full look
-abbrev pub fullPut : Cabinet → ℕ → Standing → Stepped
-fullPut c n standing = fullLooked (c .settings) (put (c .table) n standing) (c .control)
+-- an entry put, and the full look
+abbrev pub fullPut : Cabinet → ℕ → Entry → Stepped
+fullPut c n entry = fullLooked (c .settings) (put (c .table) n entry) (c .control)
 
 -- approach: away becomes coming since now
-unfoldable pub fullApproached : Cabinet → ℕ → Stepped
-fullApproached c n = unless (approachRefusal n (standingOf (c .table) n)) (refused c) (fullPut c n (Coming (c .control .now)))
+unfoldable pub fullApproached : Cabinet → Kind → ℕ → Stepped
+fullApproached c k n = unless (approachRefusal n (standingOf (c .table) n)) (refused c) (fullPut c n (comingNow c k))
 
 -- leave: a present train becomes away
 unfoldable pub fullLeft : Cabinet → ℕ → Stepped
-fullLeft c n = unless (leaveRefusal n (standingOf (c .table) n)) (refused c) (fullPut c n Away)
+fullLeft c n = unless (leaveRefusal n (standingOf (c .table) n)) (refused c) (fullPut c n awayEntry)
 
 -- clock: one tick
 unfoldable pub fullClocked : Cabinet → Stepped

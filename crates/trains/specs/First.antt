@@ -6,7 +6,6 @@ use mathlib.Core.List.{List, [], _∷_}
 use lib.Dec.{ltb, leb, eqb}
 use Rattle.settings.specs.declared.Settings.{Settings}
 use Rattle.trains.specs.declared.Standing.{Standing}
-use Rattle.trains.specs.declared.Standing.the-variants.{Away, Coming, Inside}
 use Rattle.trains.specs.declared.Entry.{Entry}
 use Rattle.trains.specs.declared.Table.{Table}
 use Rattle.trains.specs.declared.First.{First}
@@ -14,24 +13,22 @@ use Rattle.trains.specs.declared.First.the-variants.{Nobody, Train}
 use Rattle.trains.specs.declared.Question.{Question}
 use Rattle.trains.specs.declared.Question.the-variants.{Due, Latest}
 use Rattle.trains.specs.declared.Asked.{Asked}
-use Rattle.trains.specs.Trains.{dueInstant, latestInstant, placeOf}
-use Rattle.trains.specs.Table.{standingOf, put}
+use Rattle.trains.specs.Trains.{isPresent, isComing, dueInstant, latestInstant, placeOf}
+use Rattle.trains.specs.Table.{awayEntry, entryOf, put}
 
--- train n with its own instant: the due instant of a present train, the latest instant of a coming one
-unfoldable pub ownOf : Settings → Question → ℕ → Standing → First
-ownOf s Due n Away = Nobody
-ownOf s Due n (Coming a) = Train n (dueInstant s a)
-ownOf s Due n (Inside a) = Train n (dueInstant s a)
-ownOf s Latest n Away = Nobody
-ownOf s Latest n (Coming a) = Train n (latestInstant s a)
-ownOf s Latest n (Inside a) = Nobody
-
--- a train with this standing has the instant asked for
+-- a train with this standing has the instant asked for: a present train its due instant, a coming one its latest instant
 unfoldable pub hasOwn : Question → Standing → Bool
-hasOwn q Away = false
-hasOwn q (Coming a) = true
-hasOwn Due (Inside a) = true
-hasOwn Latest (Inside a) = false
+hasOwn Due standing = isPresent standing
+hasOwn Latest standing = isComing standing
+
+-- that instant
+unfoldable pub instantOf : Settings → Question → Entry → ℕ
+instantOf s Due e = dueInstant s e
+instantOf s Latest e = latestInstant s e
+
+-- train n with its own instant
+unfoldable pub ownOf : Settings → Question → ℕ → Entry → First
+ownOf s q n e = cond (hasOwn q (e .standing)) (Train n (instantOf s q e)) Nobody
 
 -- n at t comes before m at u: sooner, or of equals the lower number
 abbrev pub before : ℕ → ℕ → ℕ → ℕ → Bool
@@ -54,21 +51,21 @@ isNamed n Nobody = false
 isNamed n (Train m t) = eqb m n
 
 -- who is first of the trains of a list of entries, whose numbers go on from k
-abbrev pub firstFrom : (ℕ → Standing → First) → ℕ → List Entry → First
+abbrev pub firstFrom : (ℕ → Entry → First) → ℕ → List Entry → First
 firstFrom own k [] = Nobody
-firstFrom own k (e ∷ es) = earlierOf (own (k + 1) (e .standing)) (firstFrom own (k + 1) es)
+firstFrom own k (e ∷ es) = earlierOf (own (k + 1) e) (firstFrom own (k + 1) es)
 
 -- who is first of all trains of the table
 unfoldable pub firstIn : Settings → Question → Table → First
 firstIn s q t = firstFrom (ownOf s q) 0 (t .places)
 
 -- the first of train m, where it is another than n and has the instant asked for, and of those before it
-unfoldable pub withOther : Settings → Question → ℕ → ℕ → Standing → First → First
-withOther s q n m standing best = cond (hasOwn q standing && not (eqb m n)) (earlierOf (ownOf s q m standing) best) best
+unfoldable pub withOther : Settings → Question → ℕ → ℕ → Entry → First → First
+withOther s q n m e best = cond (hasOwn q (e .standing) && not (eqb m n)) (earlierOf (Train m (instantOf s q e)) best) best
 
 -- who is first of all trains but n
 unfoldable pub firstBut : Settings → Question → ℕ → Table → First
-firstBut s q n t = firstIn s q (put t n Away)
+firstBut s q n t = firstIn s q (put t n awayEntry)
 
 -- the same where `was` is first of all: the table is read through only where that is train n
 unfoldable pub restOf : Settings → Question → First → ℕ → Table → First
@@ -76,4 +73,4 @@ restOf s q was n t = cond (isNamed n was) (firstBut s q n t) was
 
 -- what the table says of train n
 abbrev pub askedOf : Table → Settings → Question → First → ℕ → Asked
-askedOf t s q was n = record { place = placeOf n; standing = standingOf t n; rest = restOf s q was n t }
+askedOf t s q was n = record { place = placeOf n; entry = entryOf t n; rest = restOf s q was n t }

@@ -4,8 +4,7 @@ use Prim.Native.Nat.{ℕ, _≤_, _+_, _-_, _%_}
 use native.Mathlib.Omega.{arith}
 use borrow.Author.Needs.{needs}
 use lib.ListN.{length, drop}
-use Rattle.trains.specs.declared.Standing.the-variants.{Away}
-use Rattle.trains.specs.Table.{put, WellFormed}
+use Rattle.trains.specs.Table.{awayEntry, put, WellFormed}
 use Rattle.trains.specs.First.{ownOf, firstFrom, firstIn, firstBut}
 use Rattle.trains.proofs.Lists.{length-mapped}
 use Rattle.trains.proofs.Firsts.{but-end, but-four, but-away}
@@ -13,7 +12,7 @@ use Rattle.trains.proofs.Table.first_but.Statement.{statement}
 use Rattle.trains.proofs.Table.first_but.Tie as tie
 
 abbrev Inv-loop : tie.InvT-loop
-Inv-loop s q n self best₀ i₀ best i = (i ≤ 96) × (i % 4 ≡ 0) × WellFormed self × (best ≡ firstFrom (ownOf s q) i (drop i (put self n Away .places)))
+Inv-loop s q n self best₀ i₀ best i = (i ≤ 96) × (i % 4 ≡ 0) × WellFormed self × (best ≡ firstFrom (ownOf s q) i (drop i (put self n awayEntry .places)))
 
 abbrev μ-loop : tie.MeasureT-loop
 μ-loop s q n self best₀ i₀ best i = i
@@ -115,7 +114,7 @@ loop-again c =
       inv .2,
       rw (c .with-other4 .ensures, c .before .with-other3 .ensures, c .before .before .with-other2 .ensures, c .before .before .before .with-other .ensures)
           (but-four (a .s) (a .q) (a .t1) (a .n) (inv .2) i (omega (arith, z, inv .0)) _ _ _ _ refl refl refl refl (k .loop .best)
-          (inv .3 ∙ ap (λ (m : ℕ). firstFrom (ownOf (a .s) (a .q)) m (drop m (put (a .t1) (a .n) Away .places))) (sym z))),
+          (inv .3 ∙ ap (λ (m : ℕ). firstFrom (ownOf (a .s) (a .q)) m (drop m (put (a .t1) (a .n) awayEntry .places))) (sym z))),
     )
 
 loop-less-2 : tie.Need-loop-less-2 Inv-loop μ-loop
@@ -132,7 +131,7 @@ loop-again-2 c =
       omega arith,
       inv .2,
       but-away (a .s) (a .q) (a .t1) (a .n) (inv .2) i (omega arith) _ _ _ _ refl refl refl refl (k .loop .best)
-          (inv .3 ∙ ap (λ (m : ℕ). firstFrom (ownOf (a .s) (a .q)) m (drop m (put (a .t1) (a .n) Away .places))) (sym z))
+          (inv .3 ∙ ap (λ (m : ℕ). firstFrom (ownOf (a .s) (a .q)) m (drop m (put (a .t1) (a .n) awayEntry .places))) (sym z))
           (rw (← (c .before .before .before .before .is-present .ensures), ← (c .before .before .before .is-present2 .ensures), ← (c .before .before .is-present3 .ensures), ← (c .before .is-present4 .ensures))
           (c .if1 .left)),
     )
@@ -142,7 +141,7 @@ unfolding firstIn firstBut
 returns c =
     let a = c .before .before .args in
     let z : c .before .loop .i ≡ 0 = omega arith in
-    c .before .loop .inv .3 ∙ ap (λ (m : ℕ). firstFrom (ownOf (a .s) (a .q)) m (drop m (put (a .t1) (a .n) Away .places))) z
+    c .before .loop .inv .3 ∙ ap (λ (m : ℕ). firstFrom (ownOf (a .s) (a .q)) m (drop m (put (a .t1) (a .n) awayEntry .places))) z
 
 pub first-but-spec : {M : Type 1} → statement M
 first-but-spec =
