@@ -10,12 +10,10 @@ use Rattle.settings.specs.Settings.{ticksOf}
 use Rattle.arm.specs.declared.Reading.{Reading}
 use Rattle.arm.specs.Shown.{isAllowed, angleOf}
 use Rattle.arm.specs.Movement.{mayMove}
-use Rattle.trains.specs.declared.Standing.{Standing}
-use Rattle.trains.specs.declared.Standing.the-variants.{Away, Coming, Inside}
+use Rattle.trains.specs.declared.Entry.{Entry}
 use Rattle.trains.specs.declared.Question.the-variants.{Due, Latest}
 use Rattle.trains.specs.declared.Table.{Table}
-use Rattle.trains.specs.Trains.{since}
-use Rattle.trains.specs.Table.{put, someLate, WellFormed}
+use Rattle.trains.specs.Table.{awayEntry, insideEntry, put, someLate, WellFormed}
 use Rattle.trains.specs.First.{firstIn}
 use Rattle.cabinet.specs.declared.Order.the-variants.{Nothing}
 use Rattle.cabinet.specs.declared.Answer.the-variants.{Taken, Refused}
@@ -26,7 +24,7 @@ use Rattle.bench.specs.declared.Event.the-variants.{Approach, Occupy, Le
 use Rattle.bench.specs.declared.Motion.{Motion}
 use Rattle.bench.specs.declared.Bench.{Bench}
 use Rattle.bench.specs.declared.Moved.{Moved}
-use Rattle.bench.specs.Bench.{nowOf, commandOf, armOf, standsAt, occupyRefusal, benchLeaveRefusal}
+use Rattle.bench.specs.Bench.{nowOf, commandOf, armOf, entryAt, standsAt, comingNow, occupyRefusal, benchLeaveRefusal}
 
 -- what is kept is what settings and table say: D and U, the soonest due present train, and the coming train that is first at its latest instant,
 -- of equals the lowest number
@@ -54,20 +52,20 @@ fullLooked s t m =
 abbrev pub refused : Bench → ℕ → Moved
 refused b k = record { answer = Refused k; bench = b }
 
--- a standing put, and the full look
-abbrev pub fullPut : Bench → ℕ → Standing → Moved
-fullPut b n standing = fullLooked (b .head .settings) (put (b .table) n standing) (b .head .motion)
+-- an entry put, and the full look
+abbrev pub fullPut : Bench → ℕ → Entry → Moved
+fullPut b n entry = fullLooked (b .head .settings) (put (b .table) n entry) (b .head .motion)
 
 -- a train goes inside; the cabinet does not hear it, and does not look
 abbrev pub fullEntered : Bench → ℕ → Moved
 fullEntered b n =
-    record { answer = Taken Nothing; bench = withTable (b .head .settings) (b .head .motion) (put (b .table) n (Inside (since (standsAt b n)))) }
+    record { answer = Taken Nothing; bench = withTable (b .head .settings) (b .head .motion) (put (b .table) n (insideEntry (entryAt b n))) }
 
 -- a sensor's event of train n, by the refusals of the bench
 unfoldable pub fullSensed : Bench → Event → ℕ → Moved
-fullSensed b Approach n = unless (approachRefusal n (standsAt b n)) (refused b) (fullPut b n (Coming (nowOf b)))
-fullSensed b Occupy n = unless (occupyRefusal (b .head .settings) (nowOf b) n (standsAt b n)) (refused b) (fullEntered b n)
-fullSensed b Leave n = unless (benchLeaveRefusal n (standsAt b n)) (refused b) (fullPut b n Away)
+fullSensed b (Approach k) n = unless (approachRefusal n (standsAt b n)) (refused b) (fullPut b n (comingNow (b .head) k))
+fullSensed b Occupy n = unless (occupyRefusal (b .head .settings) (nowOf b) n (entryAt b n)) (refused b) (fullEntered b n)
+fullSensed b Leave n = unless (benchLeaveRefusal n (standsAt b n)) (refused b) (fullPut b n awayEntry)
 
 -- clock: 10 now is 9,999,999, 11 a coming train is at its latest, 12 not an allowed reading, 13 breaks the movement rule
 unfoldable pub fullClockRefusal : Bench → Reading → ℕ

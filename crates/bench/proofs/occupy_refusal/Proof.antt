@@ -1,6 +1,9 @@
 -- `bench::occupy_refusal` meets its contract. Assumes nothing.
-use Rattle.bench.specs.Bench.{occupyRefusal}
+use mathlib.Core.Path.{ap}
 use borrow.Author.Tests.{le-ltb, lt-ltb}
+use Rattle.trains.specs.Trains.{isComing}
+use Rattle.trains.specs.First.{instantOf}
+use Rattle.bench.specs.Bench.{occupyRefusal}
 use borrow.Author.Needs.{needs}
 use Rattle.bench.proofs.occupy_refusal.Statement.{statement}
 use Rattle.bench.proofs.occupy_refusal.Tie as tie
@@ -11,36 +14,46 @@ is-train-requires c κs = search needs
 enum-told : tie.Need-enum-told
 enum-told c = search needs
 
-enum-known-standing : tie.Need-enum-known-standing
-enum-known-standing c = search needs
-
-cast-due : tie.Need-cast-due
-cast-due c = search needs
-
-cast-due-2 : tie.Need-cast-due-2
-cast-due-2 c = search needs
-
-add-due : tie.Need-add-due
-add-due c = search needs
-
 enum-told-2 : tie.Need-enum-told-2
 enum-told-2 c = search needs
+
+instant-of-requires : tie.Need-instant-of-requires
+instant-of-requires c κs = search needs
+
+enum-told-3 : tie.Need-enum-told-3
+enum-told-3 c = search needs
 
 returns : tie.Need-returns
 unfolding occupyRefusal
 returns c = simp (c .enum-told .given .1, c .before .before .if1 .taken, ← (c .before .before .before .is-train .ensures))
 
 returns-2 : tie.Need-returns-2
-unfolding occupyRefusal
-returns-2 c = simp (lt-ltb _ _ (c .if2 .taken), c .before .before .before .standing .given .1, c .before .before .before .before .before .if1 .taken, ← (c .before .before .before .before .before .before .is-train .ensures))
+unfolding occupyRefusal instantOf
+returns-2 c =
+    let at-instant-of = c .before in
+    let at-told = at-instant-of .before in
+    simp (
+      lt-ltb _ _ (rw (at-instant-of .instant-of .ensures) at (c .if2 .taken)),
+      ap isComing (at-told .enum-told2 .given .1),
+      at-told .before .before .if1 .taken,
+      ← (at-told .before .before .before .is-train .ensures),
+    )
 
 returns-3 : tie.Need-returns-3
-unfolding occupyRefusal
-returns-3 c = simp (le-ltb _ _ (c .if2 .left), c .before .before .before .standing .given .1, c .before .before .before .before .before .if1 .taken, ← (c .before .before .before .before .before .before .is-train .ensures))
+unfolding occupyRefusal instantOf
+returns-3 c =
+    let at-instant-of = c .before in
+    let at-told = at-instant-of .before in
+    simp (
+      le-ltb _ _ (rw (at-instant-of .instant-of .ensures) at (c .if2 .left)),
+      ap isComing (at-told .enum-told2 .given .1),
+      at-told .before .before .if1 .taken,
+      ← (at-told .before .before .before .is-train .ensures),
+    )
 
 returns-4 : tie.Need-returns-4
 unfolding occupyRefusal
-returns-4 c = simp (c .enum-told2 .given .1, c .before .before .if1 .taken, ← (c .before .before .before .is-train .ensures))
+returns-4 c = simp (c .enum-told3 .given .1, c .before .before .if1 .taken, ← (c .before .before .before .is-train .ensures))
 
 returns-5 : tie.Need-returns-5
 unfolding occupyRefusal
@@ -52,11 +65,9 @@ occupy-refusal-spec =
     (tie.spec
     is-train-requires
     enum-told
-    enum-known-standing
-    cast-due
-    cast-due-2
-    add-due
     enum-told-2
+    instant-of-requires
+    enum-told-3
     returns
     returns-2
     returns-3

@@ -28,18 +28,18 @@ enum-told-2 c = search needs
 returns : tie.Need-returns
 unfolding sensed
 returns c =
-    let at-enum-told = c .before .before in
+    let at-enum-told = c .before .before .before in
     let at-sense = at-enum-told .before .before in
     let at-ask = at-sense .before in
     let at-first-for = at-ask .before in
     let at-question-for = at-first-for .before in
     simp (
-      ← (c .put .ensures),
-      at-enum-told .enum-told .given .1,
-      ← (at-sense .sense .ensures),
-      ← (at-ask .ask .ensures),
-      ← (at-first-for .first-for .ensures),
+      c .put .ensures,
       ← (at-question-for .question-for .ensures),
+      ← (at-first-for .first-for .ensures),
+      ← (at-ask .ask .ensures),
+      ← (at-sense .sense .ensures),
+      at-enum-told .enum-told .given .1,
     )
 
 returns-2 : tie.Need-returns-2
@@ -50,11 +50,11 @@ returns-2 c =
     let at-first-for = at-ask .before in
     let at-question-for = at-first-for .before in
     simp (
-      c .enum-told2 .given .1,
-      ← (at-sense .sense .ensures),
-      ← (at-ask .ask .ensures),
-      ← (at-first-for .first-for .ensures),
       ← (at-question-for .question-for .ensures),
+      ← (at-first-for .first-for .ensures),
+      ← (at-ask .ask .ensures),
+      ← (at-sense .sense .ensures),
+      c .enum-told2 .given .1,
     )
 
 pub sense-spec : {M : Type 1} → statement M

@@ -8,6 +8,9 @@ use Rattle.bench.proofs.Head.approach.Tie as tie
 approach-refusal-requires : tie.Need-approach-refusal-requires
 approach-refusal-requires c κs = search needs
 
+coming-requires : tie.Need-coming-requires
+coming-requires c κs = search needs
+
 own-requires : tie.Need-own-requires
 own-requires c κs = search needs
 
@@ -29,16 +32,17 @@ returns c =
     let at-own2 = c .before .before in
     let at-earlier = at-own2 .before in
     let at-own = at-earlier .before in
-    let at-if1 = at-own .before in
-    let at-approach-refusal = at-if1 .before in
+    let at-coming = at-own .before in
+    let at-if1 = at-coming .before in
     simp (
       ← (c .look .ensures),
       ← (c .before .earlier2 .ensures),
       ← (at-own2 .own2 .ensures),
       ← (at-earlier .earlier .ensures),
       ← (at-own .own .ensures),
+      ← (at-coming .coming .ensures),
       at-if1 .if1 .taken,
-      ← (at-approach-refusal .approach-refusal .ensures),
+      ← (at-if1 .before .approach-refusal .ensures),
     )
 
 unsensed-requires : tie.Need-unsensed-requires
@@ -53,6 +57,7 @@ approach-spec =
     tie.close
     (tie.spec
     approach-refusal-requires
+    coming-requires
     own-requires
     earlier-requires
     own-requires-2

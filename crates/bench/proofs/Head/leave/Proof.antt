@@ -8,12 +8,15 @@ use Rattle.bench.proofs.Head.leave.Tie as tie
 leave-refusal-requires : tie.Need-leave-refusal-requires
 leave-refusal-requires c κs = search needs
 
+away-requires : tie.Need-away-requires
+away-requires c κs = search needs
+
 look-requires : tie.Need-look-requires
 look-requires c κs = search needs
 
 returns : tie.Need-returns
 unfolding headLeft
-returns c = simp (← (c .look .ensures), c .before .if1 .taken, ← (c .before .before .leave-refusal .ensures))
+returns c = simp (c .look .ensures, c .before .away .ensures, c .before .before .if1 .taken, ← (c .before .before .before .leave-refusal .ensures))
 
 unsensed-requires : tie.Need-unsensed-requires
 unsensed-requires c κs = search needs
@@ -24,4 +27,11 @@ returns-2 c = rw (c .unsensed .ensures, ← (c .before .before .leave-refusal .e
 
 pub leave-spec : {M : Type 1} → statement M
 leave-spec =
-    tie.close (tie.spec leave-refusal-requires look-requires returns unsensed-requires returns-2)
+    tie.close
+    (tie.spec
+    leave-refusal-requires
+    away-requires
+    look-requires
+    returns
+    unsensed-requires
+    returns-2)

@@ -8,12 +8,12 @@ use Rattle.bench.proofs.Head.occupy.Tie as tie
 occupy-refusal-requires : tie.Need-occupy-refusal-requires
 occupy-refusal-requires c κs = search needs
 
-since-of-requires : tie.Need-since-of-requires
-since-of-requires c κs = search needs
+inside-requires : tie.Need-inside-requires
+inside-requires c κs = search needs
 
 returns : tie.Need-returns
 unfolding headOccupied
-returns c = simp (← (c .since-of .ensures), c .before .before .before .before .if1 .taken, ← (c .before .before .before .before .before .occupy-refusal .ensures))
+returns c = simp (← (c .inside .ensures), c .before .before .before .before .if1 .taken, ← (c .before .before .before .before .before .occupy-refusal .ensures))
 
 unsensed-requires : tie.Need-unsensed-requires
 unsensed-requires c κs = search needs
@@ -25,4 +25,4 @@ returns-2 c = rw (c .unsensed .ensures, ← (c .before .before .occupy-refusal .
 pub occupy-spec : {M : Type 1} → statement M
 occupy-spec =
     tie.close
-    (tie.spec occupy-refusal-requires since-of-requires returns unsensed-requires returns-2)
+    (tie.spec occupy-refusal-requires inside-requires returns unsensed-requires returns-2)
