@@ -1,4 +1,4 @@
--- The bench as built, run through a list, is as the rules say: it has their instant, arm, trains' standings and command, and gives their answers.
+-- The bench as built, run through a list, is as the rules say: it has their instant, arm, trains' entries and command, and gives their answers.
 -- Proved of the full look, step by step, and carried to the bench as built by the equation of the two (Kept).
 -- What is said of a table and a look holds for a cabinet alone too, which is not told of occupies. Assumes nothing.
 use Prim.Native.Nat.{ℕ, zero, suc, _+_}
@@ -11,19 +11,19 @@ use mathlib.Core.Logic.{_≢_}
 use lib.Dec.{leb, ltb, eqb}
 use lib.Ieee.{Float}
 use borrow.Author.Tests.{eqb-true, eqb-false, eq-eqb, ne-eqb, le-leb, lt-leb}
+use Rattle.settings.specs.declared.Kind.{Kind}
 use Rattle.settings.specs.declared.Settings.{Settings}
 use Rattle.settings.specs.Refusal.{refuse, unless}
-use Rattle.settings.specs.Settings.{ticksOf}
+use Rattle.settings.specs.Settings.{timesOf, ticksOf}
 use Rattle.arm.specs.declared.Command.{Command}
 use Rattle.arm.specs.declared.Command.the-variants.{Up, Down}
 use Rattle.arm.specs.Shown.{readingOf, angleOf}
-use Rattle.trains.specs.declared.Standing.{Standing}
-use Rattle.trains.specs.declared.Standing.the-variants.{Away, Coming, Inside}
+use Rattle.trains.specs.declared.Entry.{Entry}
 use Rattle.trains.specs.declared.Table.{Table}
 use Rattle.trains.specs.Trains as standing
 use Rattle.trains.specs.Trains.{isTrain}
 use Rattle.trains.specs.Table as table
-use Rattle.trains.specs.Table.{standingOf, put, someStanding}
+use Rattle.trains.specs.Table.{awayEntry, comingEntry, insideEntry, entryOf, standingOf, put, someEntry}
 use Rattle.trains.proofs.Laws.{fresh-formed, fresh-away, put-formed, put-same, put-other, some-train, train-some}
 use Rattle.cabinet.specs.declared.Order.{Order}
 use Rattle.cabinet.specs.declared.Order.the-variants.{Nothing}
@@ -35,16 +35,17 @@ use Rattle.cabinet.specs.Full.{fullOrder, fullLookedAt}
 use Rattle.bench.specs.declared.Motion.{Motion}
 use Rattle.bench.specs.declared.Bench.{Bench}
 use Rattle.bench.specs.declared.Moved.{Moved}
-use Rattle.bench.specs.Bench.{nowOf, commandOf, armOf, standsAt, freshHead, freshBench, occupyRefusal, benchLeaveRefusal}
+use Rattle.bench.specs.Bench.{nowOf, commandOf, armOf, entryAt, standsAt, freshHead, freshBench, occupyRefusal, benchLeaveRefusal}
 use Rattle.bench.specs.Full.{Kept, fullLooked, fullPut, fullEntered, fullSensed, fullClockRefusal, fullClocked, refused}
 use Rattle.bench.proofs.Kept.{kept-fresh}
 use Rattle.runs.specs.declared.Step.{Step}
 use Rattle.runs.specs.declared.Step.the-variants.{Approach, Occupy, Leave, Clock}
-use Rattle.runs.specs.History.{History, instant, arm, armBefore, Place, away, coming, inside, place, isAway, isComing, isInside, since, dueAt, latestAt, someTrain, someDue, someLate, look, command, stepRefusal, keep, after, given, orderBetween, orderAt, history, stepRefusals, orders}
+use Rattle.runs.specs.History.{History, instant, arm, armBefore, Place, away, coming, inside, place, isAway, isComing, isInside, since, kindOf, dueAt, latestAt, someTrain, someDue, someLate, look, command, stepRefusal, keep, after, given, orderBetween, orderAt, history, stepRefusals, orders}
 use Rattle.runs.specs.Steps.{stateAfter, answersTo, benchStepped, benchAfter, benchAnswers}
 use Rattle.runs.specs.Kept.{fullStepped}
 use Rattle.runs.specs.Match.{Valid, shown, Core, Match}
-use Rattle.runs.specs.Demand.{answerOf, standingFrom, Agrees}
+use Rattle.runs.specs.Swap.{SameTrain}
+use Rattle.runs.specs.Demand.{answerOf, entryFrom, Agrees}
 use Rattle.runs.proofs.Rules.{some-true, some-present, approach-ok, occupy-ok, leave-ok}
 use Rattle.runs.proofs.Invariants.{valid-after, valid, clock-range}
 use Rattle.runs.proofs.Kept.{step-full, step-kept}
@@ -52,54 +53,54 @@ use Rattle.runs.proofs.Kept.{step-full, step-kept}
 -- ---- looks
 
 module _ {told : Bool} {s : Settings} {h : History} {u : Settings} {i : ℕ} {t : Table} (m : Core told s h u i t) where
-  -- what is asked of a train's standing, from what the rules say of the train
-  by-standing : {A : Type 0} (f : Standing → A) (g : Place → ℕ → A) → ((p : Place) (a : ℕ) → f (shown told p a) ≡ g p a) →
-      (n : ℕ) → f (standingOf t n) ≡ g (place n h) (since n h)
-  by-standing f g e n = ap f (m .stands n) ∙ e (place n h) (since n h)
+  -- what is asked of a train's entry, from what the rules say of the train
+  by-entry : {A : Type 0} (f : Entry → A) (g : Place → ℕ → Kind → A) → ((p : Place) (a : ℕ) (k : Kind) → f (shown told p a k) ≡ g p a k) →
+      (n : ℕ) → f (entryOf t n) ≡ g (place n h) (since n h) (kindOf n h)
+  by-entry f g e n = ap f (m .stands n) ∙ e (place n h) (since n h) (kindOf n h)
 
   pub present-is : (n : ℕ) → standing.isPresent (standingOf t n) ≡ not (isAway (place n h))
-  present-is = by-standing standing.isPresent (λ p a. not (isAway p)) (each told)
+  present-is = by-entry (λ (e : Entry). standing.isPresent (e .standing)) (λ p a k. not (isAway p)) (each told)
     where
-      each : (told : Bool) (p : Place) (a : ℕ) → standing.isPresent (shown told p a) ≡ not (isAway p)
-      each told away a = refl
-      each told coming a = refl
-      each true inside a = refl
-      each false inside a = refl
+      each : (told : Bool) (p : Place) (a : ℕ) (k : Kind) → standing.isPresent (shown told p a k .standing) ≡ not (isAway p)
+      each told away a k = refl
+      each told coming a k = refl
+      each true inside a k = refl
+      each false inside a k = refl
 
-  pub approach-number : (n : ℕ) → approachRefusal n (standingOf t n) ≡ stepRefusal s h (Approach n)
+  pub approach-number : (k : Kind) (n : ℕ) → approachRefusal n (standingOf t n) ≡ stepRefusal s h (Approach k n)
   unfolding approachRefusal stepRefusal
-  approach-number n = ap (λ (b : Bool). refuse (not (isTrain n)) 5 (refuse b 6 0)) (present-is n)
+  approach-number k n = ap (λ (b : Bool). refuse (not (isTrain n)) 5 (refuse b 6 0)) (present-is n)
 
   -- a look over the table, for trains that are not away, is the look of the history
-  table-some : (test : Standing → Bool) (g : Place → ℕ → Bool) → test Away ≡ false → ((p : Place) (a : ℕ) → test (shown told p a) ≡ g p a) →
-      someStanding test t ≡ someTrain h (λ n. g (place n h) (since n h))
-  table-some test g none each = go (someStanding test t) (someTrain h by) refl refl
+  table-some : (test : Entry → Bool) (g : Place → ℕ → Kind → Bool) → test awayEntry ≡ false → ((p : Place) (a : ℕ) (k : Kind) → test (shown told p a k) ≡ g p a k) →
+      someEntry test t ≡ someTrain h (λ n. g (place n h) (since n h) (kindOf n h))
+  table-some test g none each = go (someEntry test t) (someTrain h by) refl refl
     where
       by : ℕ → Bool
-      by n = g (place n h) (since n h)
+      by n = g (place n h) (since n h) (kindOf n h)
 
-      present : (p : Place) (a : ℕ) → test (shown told p a) ≡ true → isAway p ≡ false
-      present away a e = absurd (true≢false (sym e ∙ none))
-      present coming a e = refl
-      present inside a e = refl
+      present : (p : Place) (a : ℕ) (k : Kind) → test (shown told p a k) ≡ true → isAway p ≡ false
+      present away a k e = absurd (true≢false (sym e ∙ none))
+      present coming a k e = refl
+      present inside a k e = refl
 
-      go : (a b : Bool) → someStanding test t ≡ a → someTrain h by ≡ b → a ≡ b
+      go : (a b : Bool) → someEntry test t ≡ a → someTrain h by ≡ b → a ≡ b
       go true true p q = refl
       go true false p q =
           let w = some-train test t (m .formed) p in
-          sym (some-present by (w .0) (sym (by-standing test g each (w .0)) ∙ w .1) h (present (place (w .0) h) (since (w .0) h) (ap test (sym (m .stands (w .0))) ∙ w .1))) ∙ q
-      go false true p q = let w = some-true by h q in sym p ∙ train-some test t (m .formed) none (w .0) (by-standing test g each (w .0) ∙ w .1)
+          sym (some-present by (w .0) (sym (by-entry test g each (w .0)) ∙ w .1) h (present (place (w .0) h) (since (w .0) h) (kindOf (w .0) h) (ap test (sym (m .stands (w .0))) ∙ w .1))) ∙ q
+      go false true p q = let w = some-true by h q in sym p ∙ train-some test t (m .formed) none (w .0) (by-entry test g each (w .0) ∙ w .1)
       go false false p q = refl
 
   table-due : (x : ℕ) → table.dueBy t s x ≡ someDue s h x
   unfolding standing.isDue dueAt
-  table-due x = table-some (standing.isDue s x) (λ p a. not (isAway p) && leb (a + s .earliest) x) refl (each told)
+  table-due x = table-some (standing.isDue s x) (λ p a k. not (isAway p) && leb (a + timesOf s k .earliest) x) refl (each told)
     where
-      each : (told : Bool) (p : Place) (a : ℕ) → standing.isDue s x (shown told p a) ≡ (not (isAway p) && leb (a + s .earliest) x)
-      each told away a = refl
-      each told coming a = refl
-      each true inside a = refl
-      each false inside a = refl
+      each : (told : Bool) (p : Place) (a : ℕ) (k : Kind) → standing.isDue s x (shown told p a k) ≡ (not (isAway p) && leb (a + timesOf s k .earliest) x)
+      each told away a k = refl
+      each told coming a k = refl
+      each true inside a k = refl
+      each false inside a k = refl
 
   -- the full look: the order is the rules', and so is the command after it
   abbrev Looked : Order → Command → Type 0
@@ -122,44 +123,44 @@ module _ {told : Bool} {s : Settings} {h : History} {u : Settings} {i : ℕ} {t 
 
   -- ---- what a step makes of the table and the clock
 
-  -- a step that names a train: its standing is put, and the others stay
-  named : (x : Step) (n : ℕ) (st : Standing) → isTrain n ≡ true → instant (x ∷ h) ≡ instant h → st ≡ shown told (place n (x ∷ h)) (since n (x ∷ h)) →
-      ((k : ℕ) → k ≢ n → (place k (x ∷ h) ≡ place k h) × (since k (x ∷ h) ≡ since k h)) → Core told s (x ∷ h) u i (put t n st)
-  named x n st train same e others =
-      record { settings = m .settings; now = m .now ∙ sym same; formed = put-formed t n st (m .formed); stands = λ k. there k (ℕ-discrete k n) }
+  -- a step that names a train: its entry is put, and the others stay
+  named : (x : Step) (n : ℕ) (entry : Entry) → isTrain n ≡ true → instant (x ∷ h) ≡ instant h → entry ≡ shown told (place n (x ∷ h)) (since n (x ∷ h)) (kindOf n (x ∷ h)) →
+      ((k : ℕ) → k ≢ n → SameTrain k (x ∷ h) h) → Core told s (x ∷ h) u i (put t n entry)
+  named x n entry train same e others =
+      record { settings = m .settings; now = m .now ∙ sym same; formed = put-formed t n entry (m .formed); stands = λ k. there k (ℕ-discrete k n) }
     where
-      there : (k : ℕ) → Dec (k ≡ n) → standingOf (put t n st) k ≡ shown told (place k (x ∷ h)) (since k (x ∷ h))
-      there k (yes d) = rw d (put-same t n st (m .formed) train ∙ e)
-      there k (no d) = let o = others k d in put-other t n st k d ∙ m .stands k ∙ sym (ap₂ (shown told) (o .0) (o .1))
+      there : (k : ℕ) → Dec (k ≡ n) → entryOf (put t n entry) k ≡ shown told (place k (x ∷ h)) (since k (x ∷ h)) (kindOf k (x ∷ h))
+      there k (yes d) = rw d (put-same t n entry (m .formed) train ∙ e)
+      there k (no d) = let o = others k d in put-other t n entry k d ∙ m .stands k ∙ sym (λ j. shown told (o .0 j) (o .1 j) (o .2 j))
 
-  approach-core : (n : ℕ) → stepRefusal s h (Approach n) ≡ 0 → Core told s (Approach n ∷ h) u i (put t n (Coming i))
-  approach-core n ok =
-      named (Approach n) n (Coming i) (approach-ok s h n ok .0) refl (rw (eq-eqb n n refl) (ap Coming (m .now)))
-      (λ k d. let e = ne-eqb n k (λ z. d (sym z)) in (rw e, rw e))
+  approach-core : (k : Kind) (n : ℕ) → stepRefusal s h (Approach k n) ≡ 0 → Core told s (Approach k n ∷ h) u i (put t n (comingEntry k i))
+  approach-core k n ok =
+      named (Approach k n) n (comingEntry k i) (approach-ok s h k n ok .0) refl (rw (eq-eqb n n refl) (ap (comingEntry k) (m .now)))
+      (λ j d. let e = ne-eqb n j (λ z. d (sym z)) in (rw e, rw e, rw e))
 
-  leave-core : (n : ℕ) → stepRefusal s h (Leave n) ≡ 0 → Core told s (Leave n ∷ h) u i (put t n Away)
+  leave-core : (n : ℕ) → stepRefusal s h (Leave n) ≡ 0 → Core told s (Leave n ∷ h) u i (put t n awayEntry)
   leave-core n ok =
-      named (Leave n) n Away (leave-ok s h n ok .0) refl (rw (eq-eqb n n refl))
-      (λ k d. let e = ne-eqb n k (λ z. d (sym z)) in (rw e, refl))
+      named (Leave n) n awayEntry (leave-ok s h n ok .0) refl (rw (eq-eqb n n refl))
+      (λ k d. let e = ne-eqb n k (λ z. d (sym z)) in (rw e, refl, refl))
 
   clock-core : (r : Float) → Core told s (Clock r ∷ h) u (i + 1) t
   clock-core r = record { settings = m .settings; now = let e = m .now in omega arith; formed = m .formed; stands = m .stands }
 
 module _ {s : Settings} {h : History} {u : Settings} {i : ℕ} {t : Table} where
-  -- an occupy that the table is told of: the train's standing is put
-  occupy-core : Core true s h u i t → (n : ℕ) → stepRefusal s h (Occupy n) ≡ 0 → Core true s (Occupy n ∷ h) u i (put t n (Inside (standing.since (standingOf t n))))
+  -- an occupy that the table is told of: the train's entry is put
+  occupy-core : Core true s h u i t → (n : ℕ) → stepRefusal s h (Occupy n) ≡ 0 → Core true s (Occupy n ∷ h) u i (put t n (insideEntry (entryOf t n)))
   occupy-core m n ok =
       let f = occupy-ok s h n ok in
-      let a = ap standing.since (m .stands n ∙ ap (λ (p : Place). shown true p (since n h)) (f .1)) in
-      named m (Occupy n) n (Inside (standing.since (standingOf t n))) (f .0) refl (rw (eq-eqb n n refl) (ap Inside a))
-      (λ k d. let e = ne-eqb n k (λ z. d (sym z)) in (rw e, refl))
+      let a = ap insideEntry (m .stands n ∙ ap (λ (p : Place). shown true p (since n h) (kindOf n h)) (f .1)) in
+      named m (Occupy n) n (insideEntry (entryOf t n)) (f .0) refl (rw (eq-eqb n n refl) a)
+      (λ k d. let e = ne-eqb n k (λ z. d (sym z)) in (rw e, refl, refl))
 
   -- and one that it is not told of: all is as it was
   pub untold-core : Core false s h u i t → (n : ℕ) → stepRefusal s h (Occupy n) ≡ 0 → Core false s (Occupy n ∷ h) u i t
   untold-core m n ok = record { settings = m .settings; now = m .now; formed = m .formed; stands = λ k. m .stands k ∙ there k (eqb n k) refl }
     where
-      there : (k : ℕ) (b : Bool) → eqb n k ≡ b → shown false (place k h) (since k h) ≡ shown false (cond b inside (place k h)) (since k h)
-      there k true e = ap (λ (p : Place). shown false p (since k h)) (ap (λ (j : ℕ). place j h) (sym (eqb-true n k e)) ∙ occupy-ok s h n ok .1)
+      there : (k : ℕ) (b : Bool) → eqb n k ≡ b → shown false (place k h) (since k h) (kindOf k h) ≡ shown false (cond b inside (place k h)) (since k h) (kindOf k h)
+      there k true e = ap (λ (p : Place). shown false p (since k h) (kindOf k h)) (ap (λ (j : ℕ). place j h) (sym (eqb-true n k e)) ∙ occupy-ok s h n ok .1)
       there k false e = refl
 
 -- the clock's end
@@ -190,13 +191,14 @@ heeds {s = s} {h = h} x t w core same looks =
     }
 
 module _ {told : Bool} {s : Settings} {h : History} {u : Settings} {t : Table} {w : Control} (m : Core told s h u (w .now) t) (same : w .command ≡ command s h) where
-  pub approach-heeds : (n : ℕ) → stepRefusal s h (Approach n) ≡ 0 → Heeds told s h (Approach n) u (put t n (Coming (w .now))) (fullLookedAt u (put t n (Coming (w .now))) w)
+  pub approach-heeds : (k : Kind) (n : ℕ) → stepRefusal s h (Approach k n) ≡ 0 →
+      Heeds told s h (Approach k n) u (put t n (comingEntry k (w .now))) (fullLookedAt u (put t n (comingEntry k (w .now))) w)
   unfolding command
-  approach-heeds n ok = heeds (Approach n) (put t n (Coming (w .now))) w (approach-core m n ok) same refl
+  approach-heeds k n ok = heeds (Approach k n) (put t n (comingEntry k (w .now))) w (approach-core m k n ok) same refl
 
-  pub leave-heeds : (n : ℕ) → stepRefusal s h (Leave n) ≡ 0 → Heeds told s h (Leave n) u (put t n Away) (fullLookedAt u (put t n Away) w)
+  pub leave-heeds : (n : ℕ) → stepRefusal s h (Leave n) ≡ 0 → Heeds told s h (Leave n) u (put t n awayEntry) (fullLookedAt u (put t n awayEntry) w)
   unfolding command
-  leave-heeds n ok = heeds (Leave n) (put t n Away) w (leave-core m n ok) same refl
+  leave-heeds n ok = heeds (Leave n) (put t n awayEntry) w (leave-core m n ok) same refl
 
   pub clock-heeds : (r : Float) → Heeds told s h (Clock r) u t (fullLookedAt u t (later w))
   unfolding command
@@ -239,33 +241,37 @@ module _ (s : Settings) (h : History) (b : Bench) (m : Match s h b) where
   -- ---- the refusal numbers are the rules'
 
   inside-is : (n : ℕ) → standing.isInside (standsAt b n) ≡ isInside (place n h)
-  inside-is = by-standing (m .core) standing.isInside (λ p a. isInside p) each
+  inside-is = by-entry (m .core) (λ (e : Entry). standing.isInside (e .standing)) (λ p a k. isInside p) each
     where
-      each : (p : Place) (a : ℕ) → standing.isInside (shown true p a) ≡ isInside p
-      each away a = refl
-      each coming a = refl
-      each inside a = refl
+      each : (p : Place) (a : ℕ) (k : Kind) → standing.isInside (shown true p a k .standing) ≡ isInside p
+      each away a k = refl
+      each coming a k = refl
+      each inside a k = refl
 
   -- the table is told of occupies
-  standing-is : (n : ℕ) → standsAt b n ≡ standingFrom (place n h) (since n h)
-  standing-is = by-standing (m .core) (λ t. t) standingFrom each
+  entry-is : (n : ℕ) → entryAt b n ≡ entryFrom (place n h) (since n h) (kindOf n h)
+  entry-is = by-entry (m .core) (λ (e : Entry). e) entryFrom each
     where
-      each : (p : Place) (a : ℕ) → shown true p a ≡ standingFrom p a
-      each away a = refl
-      each coming a = refl
-      each inside a = refl
+      each : (p : Place) (a : ℕ) (k : Kind) → shown true p a k ≡ entryFrom p a k
+      each away a k = refl
+      each coming a k = refl
+      each inside a k = refl
 
-  occupy-number : (n : ℕ) → occupyRefusal (b .head .settings) (nowOf b) n (standsAt b n) ≡ stepRefusal s h (Occupy n)
+  -- an occupy of a train that is so placed, which approached at a as kind k
+  abbrev occupyNumber : Place → ℕ → Kind → ℕ
+  occupyNumber p a k = refuse (not (isComing p)) 7 (refuse (ltb (instant h) (a + timesOf s k .earliest)) 8 0)
+
+  occupy-number : (n : ℕ) → occupyRefusal (b .head .settings) (nowOf b) n (entryAt b n) ≡ stepRefusal s h (Occupy n)
   unfolding occupyRefusal stepRefusal dueAt
-  occupy-number n = ap (refuse (not (isTrain n)) 5) (rw (m .core .now, m .core .settings) (by-standing (m .core) now-coming (λ p a. refuse (not (isComing p)) 7 (refuse (ltb (instant h) (a + s .earliest)) 8 0)) each n))
+  occupy-number n = ap (refuse (not (isTrain n)) 5) (rw (m .core .now, m .core .settings) (by-entry (m .core) now-coming occupyNumber each n))
     where
-      now-coming : Standing → ℕ
-      now-coming st = refuse (not (standing.isComing st)) 7 (refuse (ltb (instant h) (standing.since st + s .earliest)) 8 0)
+      now-coming : Entry → ℕ
+      now-coming e = refuse (not (standing.isComing (e .standing))) 7 (refuse (ltb (instant h) (standing.dueInstant s e)) 8 0)
 
-      each : (p : Place) (a : ℕ) → now-coming (shown true p a) ≡ refuse (not (isComing p)) 7 (refuse (ltb (instant h) (a + s .earliest)) 8 0)
-      each away a = refl
-      each coming a = refl
-      each inside a = refl
+      each : (p : Place) (a : ℕ) (k : Kind) → now-coming (shown true p a k) ≡ occupyNumber p a k
+      each away a k = refl
+      each coming a k = refl
+      each inside a k = refl
 
   leave-number : (n : ℕ) → benchLeaveRefusal n (standsAt b n) ≡ stepRefusal s h (Leave n)
   unfolding benchLeaveRefusal stepRefusal
@@ -273,12 +279,12 @@ module _ (s : Settings) (h : History) (b : Bench) (m : Match s h b) where
 
   table-late : table.someLate (b .table) s (instant h) ≡ someLate s h
   unfolding standing.isLate latestAt
-  table-late = table-some (m .core) (standing.isLate s (instant h)) (λ p a. isComing p && leb (a + s .latest) (instant h)) refl each
+  table-late = table-some (m .core) (standing.isLate s (instant h)) (λ p a k. isComing p && leb (a + timesOf s k .latest) (instant h)) refl each
     where
-      each : (p : Place) (a : ℕ) → standing.isLate s (instant h) (shown true p a) ≡ (isComing p && leb (a + s .latest) (instant h))
-      each away a = refl
-      each coming a = refl
-      each inside a = refl
+      each : (p : Place) (a : ℕ) (k : Kind) → standing.isLate s (instant h) (shown true p a k) ≡ (isComing p && leb (a + timesOf s k .latest) (instant h))
+      each away a k = refl
+      each coming a k = refl
+      each inside a k = refl
 
   clock-number : Valid s h → (r : Float) → fullClockRefusal b (readingOf r) ≡ stepRefusal s h (Clock r)
   unfolding fullClockRefusal stepRefusal
@@ -288,15 +294,15 @@ module _ (s : Settings) (h : History) (b : Bench) (m : Match s h b) where
 
   full-stands : Valid s h → (x : Step) → Kept (fullStepped b x .bench) → Stands s h x (stepRefusal s h x) (fullStepped b x)
   unfolding fullSensed fullClocked command
-  full-stands v (Approach n) k =
-      by-number (Approach n) (approachRefusal n (standsAt b n)) (fullPut b n (Coming (nowOf b))) (approach-number (m .core) n)
-      (λ ok. with-arm (Approach n) (put (b .table) n (Coming (nowOf b))) (b .head .motion) (approach-heeds (m .core) (m .command) n ok) (m .angle) (m .previous)) k
+  full-stands v (Approach kind n) k =
+      by-number (Approach kind n) (approachRefusal n (standsAt b n)) (fullPut b n (comingEntry kind (nowOf b))) (approach-number (m .core) kind n)
+      (λ ok. with-arm (Approach kind n) (put (b .table) n (comingEntry kind (nowOf b))) (b .head .motion) (approach-heeds (m .core) (m .command) kind n ok) (m .angle) (m .previous)) k
   full-stands v (Occupy n) k =
-      by-number (Occupy n) (occupyRefusal (b .head .settings) (nowOf b) n (standsAt b n)) (fullEntered b n) (occupy-number n)
+      by-number (Occupy n) (occupyRefusal (b .head .settings) (nowOf b) n (entryAt b n)) (fullEntered b n) (occupy-number n)
       (λ ok. record { answer = ap Taken (sym (unmoved (command s h))); core = occupy-core (m .core) n ok; command = m .command; angle = m .angle; previous = m .previous }) k
   full-stands v (Leave n) k =
-      by-number (Leave n) (benchLeaveRefusal n (standsAt b n)) (fullPut b n Away) (leave-number n)
-      (λ ok. with-arm (Leave n) (put (b .table) n Away) (b .head .motion) (leave-heeds (m .core) (m .command) n ok) (m .angle) (m .previous)) k
+      by-number (Leave n) (benchLeaveRefusal n (standsAt b n)) (fullPut b n awayEntry) (leave-number n)
+      (λ ok. with-arm (Leave n) (put (b .table) n awayEntry) (b .head .motion) (leave-heeds (m .core) (m .command) n ok) (m .angle) (m .previous)) k
   full-stands v (Clock r) k =
       let next : Motion = record { control = later (b .head .motion .control); angle = angleOf (readingOf r); previous = armOf b } in
       by-number (Clock r) (fullClockRefusal b (readingOf r)) (fullLooked (b .head .settings) (b .table) next) (clock-number v r)
@@ -361,7 +367,7 @@ module _ (s : Settings) where
         angle = m .angle;
         order = m .command;
         trains = inside-is s (history s [] xs) (benchAfter (freshBench s) xs) m;
-        standings = standing-is s (history s [] xs) (benchAfter (freshBench s) xs) m;
+        entries = entry-is s (history s [] xs) (benchAfter (freshBench s) xs) m;
         previous = m .previous;
         answers = λ x. step-stands s (history s [] xs) (benchAfter (freshBench s) xs) m v x .answer;
       }

@@ -3,7 +3,8 @@ use native.Mathlib.Omega.{arith}
 use mathlib.Core.Path.{refl}
 use mathlib.Core.List.{[]}
 use lib.Ieee.{round}
-use Rattle.settings.specs.Settings.{ticksFor, inRange, settingsRefusal}
+use Rattle.settings.specs.Settings.{ticksFor, inRange, settingsRefusal, tooSoon, spread}
+use Rattle.settings.specs.declared.Kind.the-variants.{Loaded}
 use Rattle.worked.specs.Worked.{K}
 use Rattle.arm.specs.Angle.{degrees}
 use Rattle.arm.specs.Shown.{readingOf}
@@ -17,7 +18,7 @@ use Rattle.runs.proofs.Cases.{held}
 
 -- train 2 approaches and train 1, inside since 3, leaves
 pub exception-needed : ExceptionNeeded
-unfolding ticksFor inRange settingsRefusal isTrain round degrees readingOf mayMove stepRefusal history command dueAt latestAt someTrain
+unfolding ticksFor inRange tooSoon spread settingsRefusal isTrain round degrees readingOf mayMove stepRefusal history command dueAt latestAt someTrain
 exception-needed swap =
-    let same = swap K refl (held []) Approach Leave 2 1 [] (λ z. omega (arith, z)) refl (refl, (refl, tt)) .0 in
+    let same = swap K refl (held []) (Approach Loaded) Leave 2 1 [] (λ z. omega (arith, z)) refl (refl, (refl, tt)) .0 in
     up-down refl (same .moments 0 .command)

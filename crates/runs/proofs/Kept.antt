@@ -48,13 +48,13 @@ module _ {S X A : Type 0} (next full : S → X → S) (answer fully : S → X �
 -- ---- the bench
 
 pub step-full : (b : Bench) → bench.Kept b → (x : Step) → benchStepped b x ≡ fullStepped b x
-step-full b k (Approach n) = sensed.sensed-full b k n events.Approach
+step-full b k (Approach c n) = sensed.sensed-full b k n (events.Approach c)
 step-full b k (Occupy n) = sensed.sensed-full b k n events.Occupy
 step-full b k (Leave n) = sensed.sensed-full b k n events.Leave
 step-full b k (Clock r) = sensed.clock-full b k (readingOf r)
 
 pub step-kept : (b : Bench) → bench.Kept b → (x : Step) → bench.Kept (fullStepped b x .bench)
-step-kept b k (Approach n) = sensed.sensed-kept b k n events.Approach
+step-kept b k (Approach c n) = sensed.sensed-kept b k n (events.Approach c)
 step-kept b k (Occupy n) = sensed.sensed-kept b k n events.Occupy
 step-kept b k (Leave n) = sensed.sensed-kept b k n events.Leave
 step-kept b k (Clock r) = sensed.clock-kept b k (readingOf r)
@@ -74,12 +74,12 @@ bench-always s xs =
 -- ---- the cabinet alone
 
 pub heard-full : (c : Cabinet) → cabinet.Kept c → (x : Heard) → cabinetStepped c x ≡ fullHeard c x
-heard-full c k (approaching n) = heard.approach-full c k n
+heard-full c k (approaching kind n) = heard.approach-full c k kind n
 heard-full c k (leaving n) = heard.leave-full c k n
 heard-full c k ticking = heard.clock-full c k
 
 pub heard-kept : (c : Cabinet) → cabinet.Kept c → (x : Heard) → cabinet.Kept (fullHeard c x .cabinet)
-heard-kept c k (approaching n) = heard.approach-kept c k n
+heard-kept c k (approaching kind n) = heard.approach-kept c k kind n
 heard-kept c k (leaving n) = heard.leave-kept c k n
 heard-kept c k ticking = heard.clock-kept c k
 

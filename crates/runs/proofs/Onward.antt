@@ -9,7 +9,6 @@ use Rattle.arm.specs.Shown.{readingOf}
 use Rattle.trains.specs.declared.Asked.{Asked}
 use Rattle.trains.specs.declared.First.{First}
 use Rattle.trains.specs.declared.Question.{Question}
-use Rattle.trains.specs.Table.{entryWith}
 use Rattle.trains.specs.First.{askedOf}
 use Rattle.cabinet.specs.declared.Answer.the-variants.{Taken, Refused}
 use Rattle.cabinet.specs.declared.Order.{Order}
@@ -73,11 +72,11 @@ module _ {ls ns : List ℕ} {rs : List Float} {answers₀ orders₀ : List ℕ} 
 
       pub turn-taken : (o : Order) → h .answer ≡ Taken o →
           BenchWent ls ns rs answers₀ orders₀ first (set answers i v) (set orders i w)
-          (record { head = h .head; table = record { places = set (b .table .places) (a .place) (entryWith (h .standing)) } }) (i + 1)
+          (record { head = h .head; table = record { places = set (b .table .places) (a .place) (h .entry) } }) (i + 1)
       turn-taken o k =
           event _
           (sensed-taken b c (getD ns i 0) h seen o k
-          ∙ ap (λ (x : Asked). record { head = h .head; table = record { places = set (b .table .places) (x .place) (entryWith (h .standing)) } }) (sym asked))
+          ∙ ap (λ (x : Asked). record { head = h .head; table = record { places = set (b .table .places) (x .place) (h .entry) } }) (sym asked))
 
       pub turn-refused : (k : ℕ) → h .answer ≡ Refused k → BenchWent ls ns rs answers₀ orders₀ first (set answers i v) (set orders i w) b (i + 1)
       turn-refused k e = event b (sensed-refused b c (getD ns i 0) h seen k e)

@@ -6,6 +6,8 @@ use mathlib.Core.Bool.{Bool, true, false, not, _&&_, false≢true}
 use mathlib.Core.List.{List, [], _∷_}
 use lib.Dec.{leb}
 use Rattle.settings.specs.declared.Settings.{Settings}
+use Rattle.settings.specs.Settings.{timesOf}
+use Rattle.settings.specs.declared.Kind.{Kind}
 use Rattle.arm.specs.declared.Command.{Command}
 use Rattle.arm.specs.declared.Command.the-variants.{Up, Down}
 use Rattle.bench.specs.declared.Bench.{Bench}
@@ -16,9 +18,9 @@ use Rattle.cabinet.specs.declared.Order.{Order}
 use Rattle.cabinet.specs.declared.Answer.{Answer}
 use Rattle.runs.specs.declared.Step.{Step}
 use Rattle.runs.specs.declared.Step.the-variants.{Approach, Occupy, Leave, Clock}
-use Rattle.runs.specs.History.{History, instant, arm, Place, away, coming, inside, place, isAway, isComing, since, dueAt, latestAt, someTrain, someDue, someLate, lowering, raising, look, command, stepRefusal, keep, after, given, orderAt, history, stepRefusals, orders}
+use Rattle.runs.specs.History.{History, instant, arm, Place, away, coming, inside, place, isAway, isComing, since, dueAt, latestAt, someTrain, someDue, someLate, lowering, raising, look, command, stepRefusal, keep, after, given, orderAt, history, stepRefusals, orders, kindOf}
 use Rattle.runs.specs.Steps.{answersTo, benchStepped, benchAfter, benchAnswers}
-use Rattle.runs.specs.Demand.{answerOf, standingFrom}
+use Rattle.runs.specs.Demand.{answerOf, entryFrom}
 use Rattle.runs.specs.Match.{Valid, Match}
 use Rattle.runs.specs.Letters.{eventStep}
 use Rattle.runs.specs.Swap.{SameTrain, SameMoment, SameBench}
@@ -29,20 +31,20 @@ use Rattle.runs.proofs.Events.{event-instant, event-arm, event-alike, e
 
 -- ---- histories that show the same trains
 
--- a test of a train by where it is and since when, which no train passes that is away
-module _ (test : Place → ℕ → Bool) (present : (p : Place) (a : ℕ) → test p a ≡ true → isAway p ≡ false) where
+-- a test of a train by where it is, since when and of which kind, which no train passes that is away
+module _ (test : Place → ℕ → Kind → Bool) (present : (p : Place) (a : ℕ) (k : Kind) → test p a k ≡ true → isAway p ≡ false) where
   some-same : (h g : History) → ((n : ℕ) → SameTrain n h g) →
-      someTrain h (λ n. test (place n h) (since n h)) ≡ someTrain g (λ n. test (place n g) (since n g))
+      someTrain h (λ n. test (place n h) (since n h) (kindOf n h)) ≡ someTrain g (λ n. test (place n g) (since n g) (kindOf n g))
   some-same h g trains = go (someTrain h (by h)) (someTrain g (by g)) refl refl
     where
       by : History → ℕ → Bool
-      by h n = test (place n h) (since n h)
+      by h n = test (place n h) (since n h) (kindOf n h)
 
       found : (h g : History) → ((n : ℕ) → by h n ≡ by g n) → someTrain h (by h) ≡ true → someTrain g (by g) ≡ true
-      found h g same e = let w = some-true (by h) h e in let q = sym (same (w .0)) ∙ w .1 in some-present (by g) (w .0) q g (present _ _ q)
+      found h g same e = let w = some-true (by h) h e in let q = sym (same (w .0)) ∙ w .1 in some-present (by g) (w .0) q g (present _ _ _ q)
 
       same : (n : ℕ) → by h n ≡ by g n
-      same n = ap₂ test (trains n .0) (trains n .1)
+      same n = let t = trains n in λ i. test (t .0 i) (t .1 i) (t .2 i)
 
       go : (a b : Bool) → someTrain h (by h) ≡ a → someTrain g (by g) ≡ b → a ≡ b
       go true true p q = refl
@@ -55,21 +57,21 @@ module _ (s : Settings) where
   module _ (h g : History) (trains : (n : ℕ) → SameTrain n h g) where
     due-same : (t : ℕ) → someDue s h t ≡ someDue s g t
     unfolding dueAt
-    due-same t = some-same (λ p a. not (isAway p) && leb (a + s .earliest) t) present h g trains
+    due-same t = some-same (λ p a k. not (isAway p) && leb (a + timesOf s k .earliest) t) present h g trains
       where
-        present : (p : Place) (a : ℕ) → (not (isAway p) && leb (a + s .earliest) t) ≡ true → isAway p ≡ false
-        present away a e = absurd (false≢true e)
-        present coming a e = refl
-        present inside a e = refl
+        present : (p : Place) (a : ℕ) (k : Kind) → (not (isAway p) && leb (a + timesOf s k .earliest) t) ≡ true → isAway p ≡ false
+        present away a k e = absurd (false≢true e)
+        present coming a k e = refl
+        present inside a k e = refl
 
     late-same : instant h ≡ instant g → someLate s h ≡ someLate s g
     unfolding latestAt
-    late-same e = rw e (some-same (λ p a. isComing p && leb (a + s .latest) (instant g)) present h g trains)
+    late-same e = rw e (some-same (λ p a k. isComing p && leb (a + timesOf s k .latest) (instant g)) present h g trains)
       where
-        present : (p : Place) (a : ℕ) → (isComing p && leb (a + s .latest) (instant g)) ≡ true → isAway p ≡ false
-        present away a e = absurd (false≢true e)
-        present coming a e = refl
-        present inside a e = refl
+        present : (p : Place) (a : ℕ) (k : Kind) → (isComing p && leb (a + timesOf s k .latest) (instant g)) ≡ true → isAway p ≡ false
+        present away a k e = absurd (false≢true e)
+        present coming a k e = refl
+        present inside a k e = refl
 
     pub look-same : instant h ≡ instant g → (k : Command) → look s h k ≡ look s g k
     look-same e Up = rw (due-same (lowering s h), e)
@@ -81,7 +83,7 @@ module _ (s : Settings) where
     -- a step gets the same number
     pub number-same : (x : Step) → stepRefusal s h x ≡ stepRefusal s g x
     unfolding stepRefusal
-    number-same (Approach n) = event-number s events.Approach n h g (same .instant) (same .trains n)
+    number-same (Approach k n) = event-number s (events.Approach k) n h g (same .instant) (same .trains n)
     number-same (Occupy n) = event-number s events.Occupy n h g (same .instant) (same .trains n)
     number-same (Leave n) = event-number s events.Leave n h g (same .instant) (same .trains n)
     number-same (Clock r) = rw (late-same h g (same .trains) (same .instant), same .instant, same .command, same .arm)
@@ -109,7 +111,7 @@ module _ (s : Settings) where
 
     step-same : (x : Step) → SameMoment s (x ∷ h) (x ∷ g)
     unfolding command
-    step-same (Approach n) = event-same events.Approach n (heard-same (Approach n))
+    step-same (Approach k n) = event-same (events.Approach k) n (heard-same (Approach k n))
     step-same (Occupy n) = event-same events.Occupy n (λ trains i. same .command)
     step-same (Leave n) = event-same events.Leave n (heard-same (Leave n))
     step-same (Clock r) = record {
@@ -171,5 +173,5 @@ module _ (s : Settings) where
         arm = p .angle ∙ same .arm ∙ sym (q .angle);
         previous = p .previous ∙ same .previous ∙ sym (q .previous);
         command = p .order ∙ same .command ∙ sym (q .order);
-        trains = λ n. p .standings n ∙ ap₂ standingFrom (same .trains n .0) (same .trains n .1) ∙ sym (q .standings n);
+        trains = λ n. let t = same .trains n in p .entries n ∙ (λ i. entryFrom (t .0 i) (t .1 i) (t .2 i)) ∙ sym (q .entries n);
       }

@@ -1,5 +1,6 @@
 -- A list on which the short gap alone explains the closed road: that neither margin explains it is computed over its moments. Assumes nothing.
 use Prim.Native.Nat.{ℕ, zero, suc, _+_, _≤_, _<_}
+use Rattle.worked.specs.Worked.{alike, times}
 use native.Mathlib.Omega.{arith}
 use native.Mathlib.Decide.{ℕ-discrete}
 use mathlib.Core.Path.{_≡_, refl, sym, _∙_, ap}
@@ -11,8 +12,9 @@ use lib.Ieee.{round}
 use lib.ListN.{length}
 use borrow.Author.Tests.{le-leb, not-true}
 use Rattle.settings.specs.declared.Settings.{Settings}
-use Rattle.settings.specs.Settings.{ticksFor, inRange, settingsRefusal, Accepted}
+use Rattle.settings.specs.Settings.{ticksFor, inRange, settingsRefusal, Accepted, tooSoon, spread}
 use Rattle.settings.proofs.Laws.{both}
+use Rattle.settings.specs.declared.Kind.the-variants.{Loaded}
 use Rattle.arm.specs.Angle.{degrees}
 use Rattle.arm.specs.Shown.{readingOf}
 use Rattle.arm.specs.Movement.{mayMove}
@@ -93,15 +95,15 @@ module _ (s : Settings) (xs : List Step) (i : ℕ) where
 
 -- D and U are 1, and 2 ticks of open road are worthwhile
 abbrev settings : Settings
-settings = record { earliest = 4; latest = 4; fall = 5760; rise = 5760; worthwhile = 2; ahead = 1; behind = 1 }
+settings = alike (times 4 4) 5760 5760 2 1 1
 
 -- train 1 is inside at 4, and leaves when train 2 has come, which is inside at 8
 abbrev steps : List Step
 steps =
-    Approach 1 ∷ tick 5760 ∷ tick 5760 ∷ tick 5760 ∷ tick 0 ∷ Occupy 1 ∷ Approach 2 ∷ Leave 1 ∷
+    Approach Loaded 1 ∷ tick 5760 ∷ tick 5760 ∷ tick 5760 ∷ tick 0 ∷ Occupy 1 ∷ Approach Loaded 2 ∷ Leave 1 ∷
     tick 0 ∷ tick 0 ∷ tick 0 ∷ tick 0 ∷ Occupy 2 ∷ Leave 2 ∷ tick 5760 ∷ tick 5760 ∷ tick 5760 ∷ []
 
 -- moment 10 is at 6, more than a tick from both
 pub gap-needed : GapNeeded
-unfolding none ticksFor inRange settingsRefusal isTrain round degrees readingOf mayMove stepRefusal history command dueAt latestAt someTrain
+unfolding none ticksFor inRange tooSoon spread settingsRefusal isTrain round degrees readingOf mayMove stepRefusal history command dueAt latestAt someTrain
 gap-needed = (settings, steps, 10, only-between settings steps 10 refl (omega arith) (omega arith) (omega arith) refl refl)

@@ -15,7 +15,7 @@ use Rattle.arm.specs.declared.Command.{Command}
 use Rattle.arm.specs.declared.Command.the-variants.{Up, Down}
 use Rattle.runs.specs.declared.Step.{Step}
 use Rattle.runs.specs.declared.Step.the-variants.{Approach, Occupy, Leave, Clock}
-use Rattle.runs.specs.History.{History, instant, arm, away, coming, inside, place, isAway, isComing, dueAt, latestAt, someDue, someLate, lowering, raising, look, command, stepRefusal, keep, after, history, moment}
+use Rattle.runs.specs.History.{History, instant, arm, away, coming, inside, place, kindOf, isAway, isComing, dueAt, latestAt, someDue, someLate, lowering, raising, look, command, stepRefusal, keep, after, history, moment}
 use Rattle.runs.specs.Demand.{Occupied}
 use Rattle.runs.specs.Match.{Valid}
 use Rattle.runs.proofs.Rules.{some-true, some-false, approach-ok, occupy-ok, leave-ok, clock-ok}
@@ -78,10 +78,10 @@ module _ (s : Settings) where
   change : Fitting s → {h e : History} → Next s h e → (n : ℕ) → Change s (seen s h) (seen s e) n
   unfolding dueAt latestAt
   change g refused n = same refl refl refl
-  change g {h} (accepted (Approach m) ok) n = go (eqb m n) refl (approach-ok s h m ok .1)
+  change g {h} (accepted (Approach k m) ok) n = go (eqb m n) refl (approach-ok s h k m ok .1)
     where
-      go : (t : Bool) → eqb m n ≡ t → place m h ≡ away → Change s (seen s h) (seen s (Approach m ∷ h)) n
-      go true e p = comes (ap (λ k. place k h) (sym (eqb-true m n e)) ∙ p) (rw e) (rw e (omega (arith, g .timely))) (rw e (omega arith)) refl
+      go : (t : Bool) → eqb m n ≡ t → place m h ≡ away → Change s (seen s h) (seen s (Approach k m ∷ h)) n
+      go true e p = comes (ap (λ k. place k h) (sym (eqb-true m n e)) ∙ p) (rw e) (rw e (omega (arith, g .timely k))) (rw e (omega arith)) refl
       go false e p = same (rw e) (rw e) (rw e)
   change g {h} (accepted (Occupy m) ok) n = go (eqb m n) refl (occupy-ok s h m ok .1) (occupy-ok s h m ok .2)
     where
@@ -98,7 +98,7 @@ module _ (s : Settings) where
   -- to the clock and the arm
   tick : {h e : History} → Next s h e → Tick s (seen s h) (seen s e)
   tick refused = still refl refl
-  tick (accepted (Approach m) ok) = still refl refl
+  tick (accepted (Approach k m) ok) = still refl refl
   tick (accepted (Occupy m) ok) = still refl refl
   tick (accepted (Leave m) ok) = still refl refl
   tick {h} (accepted (Clock r) ok) = let f = clock-ok s h r ok in ticks refl (none-late h (f .none-late)) (f .range) (f .moves)
@@ -144,7 +144,7 @@ module _ (s : Settings) where
   pub settled : (h : History) → Valid s h → Settled (command s h) h
   unfolding command
   settled [] v = λ d. present-away (d .1) refl
-  settled (Approach m ∷ h) v = by-look (Approach m ∷ h) (command s h) .1
+  settled (Approach k m ∷ h) v = by-look (Approach k m ∷ h) (command s h) .1
   settled (Occupy m ∷ h) v = unheard h m (v .1) (command s h) (settled h (v .0))
   settled (Leave m ∷ h) v = by-look (Leave m ∷ h) (command s h) .1
   settled (Clock r ∷ h) v = by-look (Clock r ∷ h) (command s h) .1
@@ -153,7 +153,7 @@ module _ (s : Settings) where
   looked : {h e : History} → Valid s h → Next s h e → Looked s (command s h) (command s e) (seen s e)
   unfolding command
   looked {h} v refused = unmoved h (command s h) (settled h v)
-  looked {h} v (accepted (Approach m) ok) = by-look (Approach m ∷ h) (command s h) .0
+  looked {h} v (accepted (Approach k m) ok) = by-look (Approach k m ∷ h) (command s h) .0
   looked {h} v (accepted (Occupy m) ok) = unmoved (Occupy m ∷ h) (command s h) (settled (Occupy m ∷ h) (v, ok))
   looked {h} v (accepted (Leave m) ok) = by-look (Leave m ∷ h) (command s h) .0
   looked {h} v (accepted (Clock r) ok) = by-look (Clock r ∷ h) (command s h) .0
@@ -162,10 +162,10 @@ module _ (s : Settings) where
   never : (h : History) → Valid s h → Waits s (seen s h) → ⊥
   never h v (e, none) = none (subst (λ (k : Command). Settled k h) e (settled h v))
 
-  -- X is at least D + F - E
+  -- X is at least D plus latest less earliest, of every kind
   covers : Fitting s → (h : History) (n : ℕ) → fallTicks s + latestAt s h n ≤ s .ahead + dueAt s h n
   unfolding dueAt latestAt
-  covers g h n = omega (arith, g .latest .0, g .coversAhead)
+  covers g h n = omega (arith, g .coversAhead (kindOf n h))
 
   -- all facts of the course
   pub lawful : Fitting s → (xs : List Step) → Lawful s (course s xs) 0

@@ -67,7 +67,7 @@ module _ (s : Settings) where
   event-command : (e : Event) (n : ℕ) (h : History) → Valid s h → stepRefusal s h (eventStep e n) ≡ 0 →
       command s (eventStep e n ∷ h) ≡ look s (eventStep e n ∷ h) (command s h)
   unfolding command
-  event-command events.Approach n h v ok = refl
+  event-command (events.Approach k) n h v ok = refl
   event-command events.Occupy n h v ok = sym (look-again s (Occupy n ∷ h) (v, ok))
   event-command events.Leave n h v ok = refl
 

@@ -27,7 +27,7 @@ module _ (s : Settings) where
   stay-due h g stay t e =
       let due = some-due s h t e in
       let stayed = stay (due .0) (due .1) in
-      due-some g t (due .0, stayed .0, rw (stayed .1) (due .2))
+      due-some g t (due .0, stayed .0, rw (stayed .1, stayed .2) (due .2))
 
   -- and what is due within D is due within U + W + D
   soon-due : (h : History) → someDue s h (lowering s h) ≡ true → someDue s h (raising s h) ≡ true

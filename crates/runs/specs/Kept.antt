@@ -25,7 +25,7 @@ use Rattle.runs.specs.Claims.{Heard, approaching, leaving, ticking, cabi
 -- ---- the bench by the full look, taken through a list of steps
 
 abbrev pub fullStepped : Bench → Step → Moved
-fullStepped b (Approach n) = bench.fullSensed b events.Approach n
+fullStepped b (Approach k n) = bench.fullSensed b (events.Approach k) n
 fullStepped b (Occupy n) = bench.fullSensed b events.Occupy n
 fullStepped b (Leave n) = bench.fullSensed b events.Leave n
 fullStepped b (Clock r) = bench.fullClocked b (readingOf r)
@@ -39,7 +39,7 @@ fullAnswer b x = fullStepped b x .answer
 -- ---- the cabinet alone by the full look, fed with a list of what it hears
 
 abbrev pub fullHeard : Cabinet → Heard → Stepped
-fullHeard c (approaching n) = cabinet.fullApproached c n
+fullHeard c (approaching k n) = cabinet.fullApproached c k n
 fullHeard c (leaving n) = cabinet.fullLeft c n
 fullHeard c ticking = cabinet.fullClocked c
 

@@ -18,9 +18,9 @@ use Rattle.cabinet.specs.Cabinet.{numberOf, orderOf}
 use Rattle.bench.specs.declared.Bench.{Bench}
 use Rattle.bench.specs.declared.Event.{Event}
 use Rattle.bench.specs.declared.Event.the-variants as events
-use Rattle.bench.specs.Bench.{nowOf, commandOf, armOf, standsAt, freshBench}
+use Rattle.bench.specs.Bench.{nowOf, commandOf, armOf, entryAt, freshBench}
 use Rattle.runs.specs.declared.Step.{Step}
-use Rattle.runs.specs.History.{History, instant, arm, armBefore, Place, away, coming, inside, place, isAway, isComing, since, command, stepRefusals, orders, history}
+use Rattle.runs.specs.History.{History, instant, arm, armBefore, Place, away, coming, inside, place, isAway, isComing, since, kindOf, command, stepRefusals, orders, history}
 use Rattle.runs.specs.Steps.{benchAfter, benchAnswers}
 use Rattle.runs.specs.Claims.{AllTaken}
 use Rattle.runs.specs.Letters.{eventStep}
@@ -29,7 +29,7 @@ use Rattle.runs.specs.Letters.{eventStep}
 
 -- where the train that an event names is after it
 abbrev pub placeAfter : Event → Place
-placeAfter events.Approach = coming
+placeAfter (events.Approach k) = coming
 placeAfter events.Occupy = inside
 placeAfter events.Leave = away
 
@@ -43,9 +43,9 @@ excepted e f = comesAndGoes (placeAfter e) (placeAfter f)
 
 -- ---- what is the same
 
--- at two histories, a train: where it is, and the instant of its last approach
+-- at two histories, a train: where it is, and the instant and the kind of its last approach
 abbrev pub SameTrain : ℕ → History → History → Type 0
-SameTrain n h g = (place n h ≡ place n g) × (since n h ≡ since n g)
+SameTrain n h g = (place n h ≡ place n g) × (since n h ≡ since n g) × (kindOf n h ≡ kindOf n g)
 
 -- and all: the instant, the arm and what it was before the last clock step, the command, every train
 pub record SameMoment (s : Settings) (h g : History) : Type 0 where
@@ -61,7 +61,7 @@ pub record SameBench (b c : Bench) : Type 0 where
   pub arm : armOf b ≡ armOf c
   pub previous : b .head .motion .previous ≡ c .head .motion .previous
   pub command : commandOf b ≡ commandOf c
-  pub trains : (n : ℕ) → standsAt b n ≡ standsAt c n
+  pub trains : (n : ℕ) → entryAt b n ≡ entryAt c n
 
 -- the commands given at some steps, in order, whichever of the steps gave them
 abbrev pub commandsGiven : List Order → List Order
