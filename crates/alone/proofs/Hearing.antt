@@ -27,7 +27,7 @@ use Rattle.alone.specs.Alone.{heardBy, heardOf, hearing, AloneRan}
 
 -- a letter that is heard stands for one thing
 heard-one : (w : Letter) (n : ℕ) → isHeard w ≡ true → (x : Heard) × (heardBy w n ≡ x ∷ [])
-heard-one (letter.Event events.Approach) n h = (approaching n, refl)
+heard-one (letter.Event (events.Approach k)) n h = (approaching k n, refl)
 heard-one (letter.Event events.Occupy) n h = absurd (false≢true h)
 heard-one (letter.Event events.Leave) n h = (leaving n, refl)
 heard-one letter.Clock n h = (ticking, refl)

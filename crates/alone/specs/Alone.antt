@@ -1,5 +1,5 @@
 -- A cabinet alone and a list of what it hears that lies in lent slices: what `run` writes and gives back (document 01, "Cabinet": it hears
--- approach, leave and clock, never occupy or the arm). Decides beyond it, as `runs::run` does: the letters are the record's, A, L and T; a list
+-- approach, leave and clock, never occupy or the arm). Decides beyond it, as `runs::run` does: the letters are the record's, A, B, E, F, L and T; a list
 -- with any other letter is refused as a whole, 15, and slices that are shorter than the letters, 14, after it. Assumes nothing.
 use Prim.Native.Nat.{ℕ, zero, suc}
 use mathlib.Core.Path.{_≡_}
@@ -22,7 +22,7 @@ use Rattle.alone.specs.declared.Ended.{Ended}
 
 -- what a letter stands for, with this train number: one thing that a cabinet hears, or nothing
 abbrev pub heardBy : Letter → ℕ → List Heard
-heardBy (letter.Event events.Approach) n = approaching n ∷ []
+heardBy (letter.Event (events.Approach k)) n = approaching k n ∷ []
 heardBy (letter.Event events.Occupy) n = []
 heardBy (letter.Event events.Leave) n = leaving n ∷ []
 heardBy letter.Clock n = ticking ∷ []

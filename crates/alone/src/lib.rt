@@ -37,7 +37,7 @@ fn hear(c: Cabinet, letter: Letter, n: u32) -> Stepped
 {
     match letter {
         Letter::Event(e) => match e {
-            Event::Approach => c.approach(n),
+            Event::Approach(kind) => c.approach(kind, n),
             Event::Occupy => unheard(c),
             Event::Leave => c.leave(n),
         },
@@ -73,7 +73,7 @@ fn go_through(
     c
 }
 
-// A fresh cabinet under the settings, taken through the list: A approach, L leave, T clock. Each answer's refusal number (0 taken) and
+// A fresh cabinet under the settings, taken through the list: A, B, E, F approach of kinds 1 to 4, L leave, T clock. Each answer's refusal number (0 taken) and
 // command (D, U or 0) are written beside it, all other places keep their contents, and the cabinet after the list comes back. Refused as
 // a whole, nothing is written: the settings' own number, 15 for any other letter, O too, 14 for a slice that is too short.
 pub fn run(

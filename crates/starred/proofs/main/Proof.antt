@@ -2,7 +2,7 @@
 use mathlib.Core.Path.{refl}
 use lib.Ieee.{ofBits}
 use Rattle.settings.specs.Settings as settings
-use Rattle.settings.specs.Settings.{ticksFor, inRange, settingsRefusal}
+use Rattle.settings.specs.Settings.{ticksFor, inRange, tooSoon, spread, settingsRefusal}
 use Rattle.arm.specs.Shown.{readingOf}
 use Rattle.arm.specs.Movement.{mayMove}
 use Rattle.trains.specs.Trains.{isTrain}
@@ -14,11 +14,11 @@ use Rattle.starred.proofs.main.Statement.{statement}
 use Rattle.starred.proofs.main.Tie as tie
 
 check-settings-requires : tie.Need-check-settings-requires
-unfolding ticksFor inRange settingsRefusal settings.verdict
+unfolding ticksFor inRange tooSoon spread settingsRefusal settings.verdict
 check-settings-requires c κs = (record { whole = refl }, record { whole = refl })
 
 check-lists-requires : tie.Need-check-lists-requires
-unfolding runRefusal settingsRefusal inRange ticksFor allOf letterOf stepsOf stepRefusals orders stepRefusal command someTrain dueAt latestAt isTrain readingOf mayMove ofBits
+unfolding runRefusal settingsRefusal inRange tooSoon spread ticksFor allOf letterOf stepsOf stepRefusals orders stepRefusal command someTrain dueAt latestAt isTrain readingOf mayMove ofBits
 check-lists-requires c κs = record { whole = refl }
 
 returns : tie.Need-returns
