@@ -14,11 +14,9 @@ use Rattle.settings.proofs.Laws.{accepted-fits}
 
 -- the values of settings give the settings, and so the other way
 pub values-set : (s : Settings) → settingsOf (thirteen s) ≡ s
-unfolding setAll
 values-set s = refl
 
 pub set-values : (vs : List ℕ) → length vs ≡ 13 → thirteen (settingsOf vs) ≡ vs
-unfolding setAll
 set-values [] h = absurd (omega arith)
 set-values (a ∷ []) h = absurd (omega arith)
 set-values (a ∷ b ∷ []) h = absurd (omega arith)
@@ -37,13 +35,11 @@ set-values (a ∷ b ∷ c ∷ d ∷ e ∷ f ∷ g ∷ i ∷ j ∷ k ∷ l ∷ m 
 
 -- one value more, and the last
 pub set-next : (vs : List ℕ) (i : ℕ) (s : Settings) → i < length vs → setAll (i + 1) (drop i vs) s ≡ setAll (i + 1 + 1) (drop (i + 1) vs) (withSetting s (i + 1) (getD vs i 0))
-unfolding setAll
 set-next vs i s h =
     ap (λ (l : List ℕ). setAll (i + 1) l s) (drop-cons vs i 0 h)
     ∙ ap₂ (λ (j k : ℕ). setAll j (drop k vs) (withSetting s (i + 1) (getD vs i 0))) (sym (add-one (i + 1))) (sym (add-one i))
 
 pub set-end : (vs : List ℕ) (i : ℕ) (s : Settings) → length vs ≤ i → setAll (i + 1) (drop i vs) s ≡ s
-unfolding setAll
 set-end vs i s h = rw (drop-of-length-le vs {i = i} h)
 
 -- every value of accepted settings has its columns

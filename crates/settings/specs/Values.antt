@@ -36,7 +36,7 @@ abbrev pub noSettings : Settings
 noSettings = record { loaded = noTimes; fall = 0; rise = 0; worthwhile = 0; ahead = 0; behind = 0; empty = noTimes; engine = noTimes; railcar = noTimes }
 
 -- these values from an index on
-unfoldable pub setAll : ℕ → List ℕ → Settings → Settings
+abbrev pub setAll : ℕ → List ℕ → Settings → Settings
 setAll i [] s = s
 setAll i (v ∷ vs) s = setAll (suc i) vs (withSetting s i v)
 
