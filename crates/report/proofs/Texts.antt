@@ -8,12 +8,13 @@ use lib.Dec.{ltb, leb, eqb}
 use lib.ListN.{length, drop}
 use borrow.Author.Tests.{lt-ltb, le-ltb}
 use Rattle.settings.specs.declared.Verdict.the-variants.{Taken, Refused}
+use Rattle.settings.specs.Values.{noSettings}
 use Rattle.lines.specs.Layout.{lineBytes, firstLine, lastLine}
 use Rattle.lines.specs.Bytes.{starts}
 use Rattle.reader.specs.declared.Outcome.{Outcome}
 use Rattle.reader.specs.declared.Progress.{Progress}
 use Rattle.recorder.specs.Text.{current, firstStep}
-use Rattle.reader.specs.Read.{freshProgress, judged, counted, refusedAt, isNothing, endedBy, scanOf, readFrom, noSettings, readText}
+use Rattle.reader.specs.Read.{freshProgress, judged, counted, refusedAt, isNothing, endedBy, scanOf, readFrom, readText}
 use Rattle.reader.specs.Round.{runOf}
 use Rattle.report.specs.Report.{refusalReport, reportOf, runReport}
 

@@ -2,6 +2,7 @@
 use libc::STDOUT_FILENO;
 use recorder::Recorded;
 use runs::Step;
+use settings::Kind;
 use settings::Verdict;
 
 // A step of the recorder, and the recorder after it.
@@ -13,7 +14,7 @@ fn after(r: Recorded, x: Step, out: &mut [u8]) -> Recorded {
 // The sample up to its command down.
 fn lowered(out: &mut [u8]) -> Recorded {
     let r0 = recorder::start(worked::settings_k(), out);
-    let r1 = after(r0, Step::Approach(1), out);
+    let r1 = after(r0, Step::Approach(Kind::Loaded, 1), out);
     after(r1, Step::Clock(90.0), out)
 }
 
@@ -67,7 +68,7 @@ fn place(line: usize, column: usize) -> usize {
     if line < 1 {
         return 0;
     }
-    if 20 < line {
+    if 26 < line {
         return 0;
     }
     if column < 1 {
@@ -81,7 +82,7 @@ fn place(line: usize, column: usize) -> usize {
 
 // The sample with other bytes from a line's column on.
 fn changed(name: &[u8], sample: &[u8], line: usize, column: usize, bytes: &[u8]) {
-    let mut text = [0u8; 285];
+    let mut text = [0u8; 375];
     lines::put_bytes(&mut text, 0, sample);
     lines::put_bytes(&mut text, place(line, column), bytes);
     show(name, &text);
@@ -96,11 +97,11 @@ fn cut(name: &[u8], text: &[u8], n: usize) {
 
 // The sample with bytes after it.
 fn longer(name: &[u8], sample: &[u8], bytes: &[u8]) {
-    let mut text = [0u8; 300];
+    let mut text = [0u8; 390];
     lines::put_bytes(&mut text, 0, sample);
-    lines::put_bytes(&mut text, 285, bytes);
+    lines::put_bytes(&mut text, 375, bytes);
     if bytes.len() <= 15 {
-        cut(name, &text, 285 + bytes.len());
+        cut(name, &text, 375 + bytes.len());
     }
 }
 
@@ -114,7 +115,7 @@ fn without(name: &[u8], sample: &[u8], first: usize, next: usize) {
     if sample.len() < to {
         return;
     }
-    let mut text = [0u8; 285];
+    let mut text = [0u8; 375];
     lines::put_bytes(&mut text, 0, sample);
     lines::put_bytes(&mut text, from, &sample[to..]);
     cut(name, &text, sample.len() - (to - from));
@@ -126,7 +127,7 @@ fn column_cases(sample: &[u8]) {
     changed(b"leading zero", sample, 2, 7, b"0");
     changed(b"column 9 not blank", sample, 3, 9, b"0");
     changed(b"blank for 0", sample, 6, 8, b" ");
-    changed(b"blank for byte 10", sample, 12, 15, b" ");
+    changed(b"blank for byte 10", sample, 18, 15, b" ");
     changed(
         b"last line among the settings",
         sample,
@@ -146,41 +147,55 @@ fn settings_cases(sample: &[u8]) {
     changed(b"settings Q 2880", sample, 5, 5, b"2880");
 }
 
+// The times of kinds 2 to 4.
+fn kind_cases(sample: &[u8]) {
+    changed(b"settings index 12 for 13", sample, 14, 14, b"2");
+    changed(b"latest of kind 4 below its earliest", sample, 14, 8, b"2");
+    changed(b"earliest of kind 4 not above D", sample, 13, 8, b"2");
+    changed(b"latest of kind 4 beyond X", sample, 14, 8, b"5");
+    changed(b"latest of kind 3 beyond X", sample, 12, 8, b"5");
+    changed(b"approach of kind 2", sample, 15, 10, b"B");
+    changed(b"approach of kind 3", sample, 15, 10, b"E");
+    changed(b"approach of kind 4", sample, 15, 10, b"F");
+    changed(b"approach of kind 5", sample, 15, 10, b"G");
+    without(b"seven settings", sample, 9, 15);
+}
+
 // Letters that name no step and no command.
 fn letter_cases(sample: &[u8]) {
-    changed(b"letter S on line 9", sample, 9, 10, b"S");
-    changed(b"lower letter", sample, 10, 10, b"t");
-    changed(b"letter X", sample, 14, 10, b"X");
-    changed(b"letter X and a wrong instant", sample, 14, 8, b"4 X");
-    changed(b"digit as letter", sample, 16, 10, b"7");
+    changed(b"letter S on line 15", sample, 15, 10, b"S");
+    changed(b"lower letter", sample, 16, 10, b"t");
+    changed(b"letter X", sample, 20, 10, b"X");
+    changed(b"letter X and a wrong instant", sample, 20, 8, b"4 X");
+    changed(b"digit as letter", sample, 22, 10, b"7");
 }
 
 // Instants and command lines that the recorder would not put there.
 fn recorder_cases(sample: &[u8]) {
-    changed(b"A line one instant late", sample, 9, 8, b"1");
-    changed(b"T line one instant late", sample, 12, 8, b"3");
+    changed(b"A line one instant late", sample, 15, 8, b"1");
+    changed(b"T line one instant late", sample, 18, 8, b"3");
     changed(
         b"A line with a wrong instant and train 97",
         sample,
-        9,
+        15,
         8,
         b"1 A  97",
     );
-    changed(b"D line with number 1", sample, 11, 14, b"1");
-    changed(b"U line for the D line", sample, 11, 10, b"U");
-    changed(b"U line that is not due", sample, 14, 10, b"U   0");
-    without(b"D line missing", sample, 11, 12);
-    without(b"U line missing before the last line", sample, 17, 19);
+    changed(b"D line with number 1", sample, 17, 14, b"1");
+    changed(b"U line for the D line", sample, 17, 10, b"U");
+    changed(b"U line that is not due", sample, 20, 10, b"U   0");
+    without(b"D line missing", sample, 17, 18);
+    without(b"U line missing before the last line", sample, 23, 25);
 }
 
 // Steps of a train that the bench refuses.
 fn train_cases(sample: &[u8]) {
-    changed(b"train 97", sample, 9, 13, b"97");
-    changed(b"train 0", sample, 9, 14, b"0");
-    changed(b"approach of a coming train", sample, 14, 10, b"A");
-    changed(b"occupy of a train inside", sample, 16, 10, b"O");
-    changed(b"occupy too early", sample, 13, 1, b"       2 O   1");
-    changed(b"leave of a coming train", sample, 14, 10, b"L");
+    changed(b"train 97", sample, 15, 13, b"97");
+    changed(b"train 0", sample, 15, 14, b"0");
+    changed(b"approach of a coming train", sample, 20, 10, b"A");
+    changed(b"occupy of a train inside", sample, 22, 10, b"O");
+    changed(b"occupy too early", sample, 19, 1, b"       2 O   1");
+    changed(b"leave of a coming train", sample, 20, 10, b"L");
 }
 
 // Steps of the clock that the bench refuses.
@@ -188,31 +203,31 @@ fn clock_cases(sample: &[u8]) {
     changed(
         b"clock past a train's latest",
         sample,
-        14,
+        20,
         1,
         b"       4 T   0\n       5 T   0",
     );
-    changed(b"angle 5761", sample, 10, 14, b"1");
-    changed(b"angle 2881 with the command down", sample, 12, 14, b"1");
-    changed(b"angle 5759 with the command up", sample, 18, 11, b"5759");
+    changed(b"angle 5761", sample, 16, 14, b"1");
+    changed(b"angle 2881 with the command down", sample, 18, 14, b"1");
+    changed(b"angle 5759 with the command up", sample, 24, 11, b"5759");
 }
 
 // Missing ends, text after the last line, and two shorter records that are accepted.
 fn end_cases(sample: &[u8]) {
     cut(b"empty text", sample, 0);
     cut(b"line 1 alone", sample, 15);
-    cut(b"no steps and no last line", sample, 120);
-    cut(b"last line missing", sample, 270);
-    cut(b"last line without byte 10", sample, 284);
+    cut(b"no steps and no last line", sample, 210);
+    cut(b"last line missing", sample, 360);
+    cut(b"last line without byte 10", sample, 374);
     longer(b"byte 10 after the last line", sample, b"\n");
     longer(b"last line twice", sample, b" END OF RECORD\n");
-    without(b"no steps", sample, 9, 19);
-    without(b"last step left out", sample, 18, 19);
+    without(b"no steps", sample, 15, 25);
+    without(b"last step left out", sample, 24, 25);
 }
 
 // The sample written, printed and read, and then the texts made from it.
 fn main() {
-    let mut text = [0u8; 285];
+    let mut text = [0u8; 375];
     write_sample(&mut text);
     let sample: &[u8] = &text;
     print(sample);
@@ -220,6 +235,7 @@ fn main() {
     end_cases(sample);
     column_cases(sample);
     settings_cases(sample);
+    kind_cases(sample);
     letter_cases(sample);
     recorder_cases(sample);
     train_cases(sample);
