@@ -6,10 +6,10 @@ use mathlib.Core.List.{List, _∷_}
 use lib.ListN.{length, set, length-set}
 use Rattle.trains.specs.declared.Table.{Table}
 use Rattle.trains.specs.Trains.{since}
-use Rattle.trains.specs.Table.{standingOf}
+use Rattle.trains.specs.Table.{entryOf, standingOf}
 use Rattle.runs.specs.Run.{over}
 use Rattle.runs.proofs.Slices.{Filled, filled-none, filled-next, filled-all}
-use Rattle.exports.specs.State.{standingNumber, trainNumbers}
+use Rattle.exports.specs.State.{standingNumber, kindNumber, trainNumbers}
 
 -- the first four places
 pub four-filled : (old rest : List ℕ) (a b c d : ℕ) → 4 ≤ length old → Filled old (set (set (set (set old 0 a) 1 b) 2 c) 3 d) 4 rest (a ∷ b ∷ c ∷ d ∷ rest)
@@ -20,7 +20,7 @@ four-filled old rest a b c d h =
     (filled-next old old 0 a _ _ (omega arith) (filled-none old _))))
 
 -- the places are as many as they were
-pub four-long : (old : List ℕ) (a b c d : ℕ) → 196 ≤ length old → 196 ≤ length (set (set (set (set old 0 a) 1 b) 2 c) 3 d)
+pub four-long : (old : List ℕ) (a b c d : ℕ) → 292 ≤ length old → 292 ≤ length (set (set (set (set old 0 a) 1 b) 2 c) 3 d)
 four-long old a b c d h = rw (length-set, length-set, length-set, length-set) h
 
 module _ (t : Table) (state₀ : List ℕ) where
@@ -28,33 +28,36 @@ module _ (t : Table) (state₀ : List ℕ) where
   pub record Writing (state : List ℕ) (n i : ℕ) : Type 0 where
     pub low : 1 ≤ n
     pub high : n ≤ 97
-    pub place : i ≡ 2 * n + 2
+    pub place : i ≡ 3 * n + 1
     pub same-length : length state ≡ length state₀
     pub filled : (old whole : List ℕ) → Filled old state₀ 4 (trainNumbers t 1 96) whole → Filled old state i (trainNumbers t n (97 - n)) whole
 
   pub writing-start : Writing state₀ 1 4
   writing-start = record { low = omega arith; high = omega arith; place = refl; same-length = refl; filled = λ old whole f. f }
 
-  module _ (long : 196 ≤ length state₀) (state : List ℕ) (n i : ℕ) (w : Writing state n i) where
+  module _ (long : 292 ≤ length state₀) (state : List ℕ) (n i : ℕ) (w : Writing state n i) where
     -- there are places for train n
-    pub writing-room : n ≤ 96 → i + 1 < length state
+    pub writing-room : n ≤ 96 → i + 2 < length state
     writing-room h = omega (arith, w .place, w .same-length)
 
     -- one train more
-    pub writing-next : n ≤ 96 → (a b : ℕ) → a ≡ standingNumber (standingOf t n) → b ≡ since (standingOf t n) → Writing (set (set state i a) (i + 1) b) (n + 1) (i + 2)
+    pub writing-next : n ≤ 96 → (a b c : ℕ) → a ≡ standingNumber (standingOf t n) → b ≡ since (standingOf t n) → c ≡ kindNumber (entryOf t n) →
+        Writing (set (set (set state i a) (i + 1) b) (i + 2) c) (n + 1) (i + 3)
     unfolding trainNumbers
-    writing-next h a b p q =
+    writing-next h a b c p q r =
         let e : 97 - n ≡ suc (97 - (n + 1)) = omega arith in
         let two : i + 2 ≡ i + 1 + 1 = omega arith in
+        let three : i + 3 ≡ i + 1 + 1 + 1 = omega arith in
         record {
           low = omega arith;
           high = omega arith;
           place = omega (arith, w .place);
-          same-length = length-set (set state i a) (i + 1) b ∙ length-set state i a ∙ w .same-length;
+          same-length = length-set (set (set state i a) (i + 1) b) (i + 2) c ∙ length-set (set state i a) (i + 1) b ∙ length-set state i a ∙ w .same-length;
           filled = λ old whole f.
-              rw (two, p, q)
-              (filled-next old (set state i _) (i + 1) _ _ whole (rw length-set (writing-room h))
-              (filled-next old state i _ _ whole (omega (arith, writing-room h)) (rw e at (w .filled old whole f))));
+              rw (three, two, p, q, r)
+              (filled-next old (set (set state i _) (i + 1) _) (i + 1 + 1) _ _ whole (rw (length-set, length-set) (omega (arith, writing-room h)))
+              (filled-next old (set state i _) (i + 1) _ _ whole (rw length-set (omega (arith, writing-room h)))
+              (filled-next old state i _ _ whole (omega (arith, writing-room h)) (rw e at (w .filled old whole f)))));
         }
 
     -- the end

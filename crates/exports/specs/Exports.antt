@@ -19,10 +19,6 @@ use Rattle.lines.specs.Place.{WritesOnly}
 use Rattle.lines.specs.Bytes.{fits, splice}
 use Rattle.reader.specs.declared.Outcome.{Outcome}
 
--- the seven settings in document 01's order
-abbrev pub settingsOf : ℕ → ℕ → ℕ → ℕ → ℕ → ℕ → ℕ → Settings
-settingsOf e f p q w x y = record { earliest = e; latest = f; fall = p; rise = q; worthwhile = w; ahead = x; behind = y }
-
 -- a run of a list xs with this refusal number: the number is answered, what the rules say of the list is written, and demand 3 holds for it
 pub record Answered (s : Settings) (xs : List Step) (k r : ℕ) (answers answersAfter orders ordersAfter : List ℕ) : Type 0 where
   pub number : r ≡ k

@@ -1,16 +1,20 @@
--- The bench after a list of steps, by numbers: instant, angle, angle before and command, then two numbers for each train. Assumes nothing.
+-- The bench after a list of steps, by numbers: instant, angle, angle before and command, then three numbers for each train. Assumes nothing.
 use Prim.Native.Nat.{ℕ, zero, suc, _+_}
 use mathlib.Core.Path.{_≡_}
+use mathlib.Core.Bool.{cond}
 use mathlib.Core.List.{List, [], _∷_}
 use lib.Dec.{leb}
+use Rattle.settings.specs.declared.Kind.{Kind}
+use Rattle.settings.specs.declared.Kind.the-variants.{Loaded, Empty, Engine, RailCar}
 use Rattle.settings.specs.declared.Settings.{Settings}
 use Rattle.arm.specs.declared.Command.{Command}
 use Rattle.arm.specs.declared.Command.the-variants.{Up, Down}
 use Rattle.trains.specs.declared.Standing.{Standing}
 use Rattle.trains.specs.declared.Standing.the-variants.{Away, Coming, Inside}
+use Rattle.trains.specs.declared.Entry.{Entry}
 use Rattle.trains.specs.declared.Table.{Table}
-use Rattle.trains.specs.Trains.{since}
-use Rattle.trains.specs.Table.{standingOf}
+use Rattle.trains.specs.Trains.{isPresent, since}
+use Rattle.trains.specs.Table.{entryOf, standingOf}
 use Rattle.bench.specs.declared.Bench.{Bench}
 use Rattle.bench.specs.Bench.{nowOf, commandOf, armOf, freshBench}
 use Rattle.runs.specs.declared.Step.{Step}
@@ -29,18 +33,28 @@ standingNumber Away = 0
 standingNumber (Coming a) = 1
 standingNumber (Inside a) = 2
 
--- the standing and the instant of approach, 0 where away, of train n and those after it, so many of them
+-- the kind of a train that is present, 1 to 4; 0 where it is away
+abbrev pub kindAs : Kind → ℕ
+kindAs Loaded = 1
+kindAs Empty = 2
+kindAs Engine = 3
+kindAs RailCar = 4
+
+abbrev pub kindNumber : Entry → ℕ
+kindNumber e = cond (isPresent (e .standing)) (kindAs (e .kind)) 0
+
+-- the standing, the instant of approach, 0 where away, and the kind of train n and those after it, so many of them
 unfoldable pub trainNumbers : Table → ℕ → ℕ → List ℕ
 trainNumbers t n zero = []
-trainNumbers t n (suc many) = standingNumber (standingOf t n) ∷ since (standingOf t n) ∷ trainNumbers t (n + 1) many
+trainNumbers t n (suc many) = standingNumber (standingOf t n) ∷ since (standingOf t n) ∷ kindNumber (entryOf t n) ∷ trainNumbers t (n + 1) many
 
--- the 196 numbers of a bench
+-- the 292 numbers of a bench
 unfoldable pub benchNumbers : Bench → List ℕ
 benchNumbers b = nowOf b ∷ armOf b ∷ b .head .motion .previous ∷ commandNumber (commandOf b) ∷ trainNumbers (b .table) 1 96
 
--- the number that refuses a run whose bench is written: 14 where there are fewer than 196 places for it
+-- the number that refuses a run whose bench is written: 14 where there are fewer than 292 places for it
 abbrev pub stateRefusal : Settings → List ℕ → ℕ → ℕ → ℕ → ℕ → ℕ → ℕ
-stateRefusal s letters numbers readings answers orders places = runRefusalWith s letters numbers readings answers orders (leb 196 places)
+stateRefusal s letters numbers readings answers orders places = runRefusalWith s letters numbers readings answers orders (leb 292 places)
 
 -- a run of a list xs with this refusal number, and the bench after it written
 pub record StateAnswered (s : Settings) (xs : List Step) (k r : ℕ) (answers answersAfter orders ordersAfter state stateAfter : List ℕ) : Type 0 where

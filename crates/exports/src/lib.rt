@@ -2,6 +2,7 @@
 ghost use mathlib.Core.Path.{_≡_};
 ghost use Prim.Native.Nat.{_≤_};
 ghost use lib.ListN.{length};
+ghost use Rattle.settings.specs.Values.{settingsOf};
 ghost use Rattle.runs.specs.declared.Feed.the-variants.{ToBench};
 ghost use Rattle.runs.specs.Run.{stepsOf, over, runRefusal};
 ghost use Rattle.alone.specs.Alone.{heardOf, aloneRefusal};
@@ -12,57 +13,39 @@ ghost use Rattle.stretches.specs.declared.Sort.the-variants.{Lowered, Occupied}
 ghost use Rattle.stretches.specs.Walk.{startCursor, nothingFrom, stretchesAhead};
 ghost use Rattle.stretches.specs.Figures.{total};
 ghost use Rattle.report.specs.Report.{reportOf};
-ghost use Rattle.exports.specs.Exports.{settingsOf, Answered, CabinetAnswered, RecordAnswered, packed, Reports};
-ghost use Rattle.exports.specs.State.{commandNumber, standingNumber, benchNumbers, stateRefusal, StateAnswered};
+ghost use Rattle.exports.specs.Exports.{Answered, CabinetAnswered, RecordAnswered, packed, Reports};
+ghost use Rattle.exports.specs.State.{commandNumber, standingNumber, kindAs, kindNumber, benchNumbers, stateRefusal, StateAnswered};
 ghost use Rattle.exports.specs.Look.{poseNumbers, posed, gateNumber, looks, lookRefusal, LookAnswered};
 ghost use Rattle.exports.specs.Places.{cursorOf, cursorIn, flag, foundNumber, nextNumbers, nextFrom, Placed};
 use arm::Command;
 use arm::Gate;
 use bench::Bench;
-use settings::Settings;
+use settings::Kind;
 use stretches::Cursor;
 use stretches::Next;
 use stretches::Sort;
 use stretches::Stretch;
+use trains::Entry;
 use trains::Standing;
 
-fn settings_of(e: u32, f: u32, p: u32, q: u32, w: u32, x: u32, y: u32) -> Settings
-    ensures { λ r. ⌜ r ≡ settingsOf e f p q w x y ⌝ }
-{
-    Settings {
-        earliest: e,
-        latest: f,
-        fall: p,
-        rise: q,
-        worthwhile: w,
-        ahead: x,
-        behind: y,
-    }
-}
-
-// A bench under the settings, run through a list of steps (`runs::run`): the refusal number of the run, 0 where it is taken;
+// A bench under the settings, thirteen values in their order (one that is missing is 0, and so refused, 1), run through a list of steps
+// (`runs::run`): the refusal number of the run, 0 where it is taken;
 // each step's refusal number and command are written beside it.
 #[no_mangle]
 pub extern "C" fn weqhaso_run(
-    e: u32,
-    f: u32,
-    p: u32,
-    q: u32,
-    w: u32,
-    x: u32,
-    y: u32,
+    values: &[u32],
     letters: &[u8],
     numbers: &[u32],
     readings: &[f32],
     answers: &mut [u8],
     orders: &mut [u8],
 ) -> u8
-    ensures { λ r. ⌜ Answered (settingsOf e f p q w x y) (stepsOf (now (letters .entry)) (now (numbers .entry)) (now (readings .entry)))
-        (runRefusal ToBench (settingsOf e f p q w x y) (now (letters .entry)) (length (now (numbers .entry))) (length (now (readings .entry)))
+    ensures { λ r. ⌜ Answered (settingsOf (now (values .entry))) (stepsOf (now (letters .entry)) (now (numbers .entry)) (now (readings .entry)))
+        (runRefusal ToBench (settingsOf (now (values .entry))) (now (letters .entry)) (length (now (numbers .entry))) (length (now (readings .entry)))
         (length (now (answers .entry))) (length (now (orders .entry))))
         r (now (answers .entry)) (now (answers .exit)) (now (orders .entry)) (now (orders .exit)) ⌝ }
 {
-    let s = settings_of(e, f, p, q, w, x, y);
+    let s = settings::of_values(values);
     let r = runs::run(s, letters, numbers, readings, answers, orders);
     let v = r.verdict;
     settings::number(v)
@@ -89,9 +72,33 @@ fn standing_number(standing: Standing) -> u32
     }
 }
 
-// The bench by numbers: instant, angle, angle before and command, then the standing of each train and the instant of its approach.
+fn kind_as(kind: Kind) -> u32
+    ensures { λ r. ⌜ r ≡ kindAs kind ⌝ }
+{
+    match kind {
+        Kind::Loaded => 1,
+        Kind::Empty => 2,
+        Kind::Engine => 3,
+        Kind::RailCar => 4,
+    }
+}
+
+// The kind of a train that is present, 1 to 4; 0 where it is away.
+fn kind_number(e: Entry) -> u32
+    ensures { λ r. ⌜ r ≡ kindNumber e ⌝ }
+{
+    let standing = e.standing;
+    let kind = e.kind;
+    match standing {
+        Standing::Away => 0,
+        Standing::Coming(_) => kind_as(kind),
+        Standing::Inside(_) => kind_as(kind),
+    }
+}
+
+// The bench by numbers: instant, angle, angle before and command, then the standing of each train, the instant of its approach and its kind.
 fn write_bench(b: Bench, state: &mut [u32])
-    requires { ⌜ 196 ≤ length (now state) ⌝ }
+    requires { ⌜ 292 ≤ length (now state) ⌝ }
     ensures { λ _. ⌜ now (state .exit) ≡ over (benchNumbers b) (now (state .entry)) ⌝ }
 {
     let motion = b.head.motion;
@@ -105,26 +112,22 @@ fn write_bench(b: Bench, state: &mut [u32])
     let mut n: u32 = 1;
     let mut i: usize = 4;
     while n <= 96 {
-        let standing = table.standing_of(n);
+        let e = table.entry_of(n);
+        let standing = e.standing;
         state[i] = standing_number(standing);
         state[i + 1] = trains::since_of(standing);
+        state[i + 2] = kind_number(e);
         n = n + 1;
-        i = i + 2;
+        i = i + 3;
     }
 }
 
-// A run as `weqhaso_run` does it, and the bench after it in the first 196 places of `state`: instant, angle, angle before, command
-// (0 up, 1 down), then for each train 1 to 96 its standing (0 away, 1 coming, 2 inside) and the instant of its approach. 14 last, where
-// there are fewer places.
+// A run as `weqhaso_run` does it, and the bench after it in the first 292 places of `state`: instant, angle, angle before, command
+// (0 up, 1 down), then for each train 1 to 96 its standing (0 away, 1 coming, 2 inside), the instant of its approach and its kind (1 to 4, 0
+// where it is away). 14 last, where there are fewer places.
 #[no_mangle]
 pub extern "C" fn weqhaso_state(
-    e: u32,
-    f: u32,
-    p: u32,
-    q: u32,
-    w: u32,
-    x: u32,
-    y: u32,
+    values: &[u32],
     letters: &[u8],
     numbers: &[u32],
     readings: &[f32],
@@ -132,15 +135,15 @@ pub extern "C" fn weqhaso_state(
     orders: &mut [u8],
     state: &mut [u32],
 ) -> u8
-    ensures { λ r. ⌜ StateAnswered (settingsOf e f p q w x y)
+    ensures { λ r. ⌜ StateAnswered (settingsOf (now (values .entry)))
         (stepsOf (now (letters .entry)) (now (numbers .entry)) (now (readings .entry)))
-        (stateRefusal (settingsOf e f p q w x y) (now (letters .entry)) (length (now (numbers .entry))) (length (now (readings .entry)))
+        (stateRefusal (settingsOf (now (values .entry))) (now (letters .entry)) (length (now (numbers .entry))) (length (now (readings .entry)))
         (length (now (answers .entry))) (length (now (orders .entry))) (length (now (state .entry))))
         r (now (answers .entry)) (now (answers .exit)) (now (orders .entry)) (now (orders .exit))
         (now (state .entry)) (now (state .exit)) ⌝ }
 {
-    let s = settings_of(e, f, p, q, w, x, y);
-    let space = 196 <= state.len();
+    let s = settings::of_values(values);
+    let space = 292 <= state.len();
     let r = runs::run_with(s, letters, numbers, readings, answers, orders, space);
     let v = r.verdict;
     let k = settings::number(v);
@@ -181,13 +184,7 @@ fn write_look(b: Bench, pose: &mut [f32], look: &mut [u32])
 // 14 last, where there are fewer places in either.
 #[no_mangle]
 pub extern "C" fn weqhaso_look(
-    e: u32,
-    f: u32,
-    p: u32,
-    q: u32,
-    w: u32,
-    x: u32,
-    y: u32,
+    values: &[u32],
     letters: &[u8],
     numbers: &[u32],
     readings: &[f32],
@@ -196,14 +193,14 @@ pub extern "C" fn weqhaso_look(
     pose: &mut [f32],
     look: &mut [u32],
 ) -> u8
-    ensures { λ r. ⌜ LookAnswered (settingsOf e f p q w x y)
+    ensures { λ r. ⌜ LookAnswered (settingsOf (now (values .entry)))
         (stepsOf (now (letters .entry)) (now (numbers .entry)) (now (readings .entry)))
-        (lookRefusal (settingsOf e f p q w x y) (now (letters .entry)) (length (now (numbers .entry))) (length (now (readings .entry)))
+        (lookRefusal (settingsOf (now (values .entry))) (now (letters .entry)) (length (now (numbers .entry))) (length (now (readings .entry)))
         (length (now (answers .entry))) (length (now (orders .entry))) (length (now (pose .entry))) (length (now (look .entry))))
         r (now (answers .entry)) (now (answers .exit)) (now (orders .entry)) (now (orders .exit))
         (now (pose .entry)) (now (pose .exit)) (now (look .entry)) (now (look .exit)) ⌝ }
 {
-    let s = settings_of(e, f, p, q, w, x, y);
+    let s = settings::of_values(values);
     let space = (2 <= pose.len()) & (2 <= look.len());
     let r = runs::run_with(s, letters, numbers, readings, answers, orders, space);
     let v = r.verdict;
@@ -218,24 +215,18 @@ pub extern "C" fn weqhaso_look(
 // taken; each answer's refusal number and command are written beside it.
 #[no_mangle]
 pub extern "C" fn weqhaso_cabinet(
-    e: u32,
-    f: u32,
-    p: u32,
-    q: u32,
-    w: u32,
-    x: u32,
-    y: u32,
+    values: &[u32],
     letters: &[u8],
     numbers: &[u32],
     answers: &mut [u8],
     orders: &mut [u8],
 ) -> u8
-    ensures { λ r. ⌜ CabinetAnswered (settingsOf e f p q w x y) (heardOf (now (letters .entry)) (now (numbers .entry)))
-        (aloneRefusal (settingsOf e f p q w x y) (now (letters .entry)) (length (now (numbers .entry)))
+    ensures { λ r. ⌜ CabinetAnswered (settingsOf (now (values .entry))) (heardOf (now (letters .entry)) (now (numbers .entry)))
+        (aloneRefusal (settingsOf (now (values .entry))) (now (letters .entry)) (length (now (numbers .entry)))
         (length (now (answers .entry))) (length (now (orders .entry))))
         r (now (answers .entry)) (now (answers .exit)) (now (orders .entry)) (now (orders .exit)) ⌝ }
 {
-    let s = settings_of(e, f, p, q, w, x, y);
+    let s = settings::of_values(values);
     let r = alone::run(s, letters, numbers, answers, orders);
     let v = r.verdict;
     settings::number(v)
@@ -245,26 +236,20 @@ pub extern "C" fn weqhaso_cabinet(
 // record, up to the end of its last line, and the refusal number of the whole; each step's refusal number is written beside it.
 #[no_mangle]
 pub extern "C" fn weqhaso_record(
-    e: u32,
-    f: u32,
-    p: u32,
-    q: u32,
-    w: u32,
-    x: u32,
-    y: u32,
+    values: &[u32],
     letters: &[u8],
     numbers: &[u32],
     readings: &[f32],
     answers: &mut [u8],
     out: &mut [u8],
 ) -> u64
-    ensures { λ r. ⌜ RecordAnswered (settingsOf e f p q w x y)
+    ensures { λ r. ⌜ RecordAnswered (settingsOf (now (values .entry)))
         (stepsOf (now (letters .entry)) (now (numbers .entry)) (now (readings .entry)))
-        (recordRefusal (settingsOf e f p q w x y) (now (letters .entry)) (length (now (numbers .entry))) (length (now (readings .entry)))
+        (recordRefusal (settingsOf (now (values .entry))) (now (letters .entry)) (length (now (numbers .entry))) (length (now (readings .entry)))
         (length (now (answers .entry))) (length (now (out .entry))))
         r (now (answers .entry)) (now (answers .exit)) (now (out .entry)) (now (out .exit)) ⌝ }
 {
-    let s = settings_of(e, f, p, q, w, x, y);
+    let s = settings::of_values(values);
     let r = recording::record_run(s, letters, numbers, readings, answers, out);
     let answer = r.answer;
     let recorder = r.recorder;

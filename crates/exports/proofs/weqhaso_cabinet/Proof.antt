@@ -4,8 +4,8 @@ use Rattle.exports.proofs.Laws.{answered-alone}
 use Rattle.exports.proofs.weqhaso_cabinet.Statement.{statement}
 use Rattle.exports.proofs.weqhaso_cabinet.Tie as tie
 
-settings-of-requires : tie.Need-settings-of-requires
-settings-of-requires c κs = search needs
+of-values-requires : tie.Need-of-values-requires
+of-values-requires c κs = search needs
 
 run-requires : tie.Need-run-requires
 run-requires c κs = search needs
@@ -22,9 +22,9 @@ same-length-2 c = search needs
 returns : tie.Need-returns
 returns c =
     answered-alone _ _ _ _ _ _ _ _ _
-    (rw (c .before .before .before .before .before .before .before .before .settings-of .ensures) at (c .before .before .before .before .before .run .ensures)) (c .number .ensures)
+    (rw (c .before .before .before .before .before .before .before .before .of-values .ensures) at (c .before .before .before .before .before .run .ensures)) (c .number .ensures)
 
 pub weqhaso-cabinet-spec : {M : Type 1} → statement M
 weqhaso-cabinet-spec =
     tie.close
-    (tie.spec settings-of-requires run-requires number-requires same-length same-length-2 returns)
+    (tie.spec of-values-requires run-requires number-requires same-length same-length-2 returns)

@@ -15,10 +15,10 @@ abbrev Run : Type 0
 Run = tie.After-number
 
 abbrev given : Run → tie.Start
-given n = n .before .before .before .before .before .before .before .before .before .before .before .before .before .before .before .before
+given n = n .before .before .before .before .before .before .before .before .before .before .before .before .before .before .before .before .before
 
-settings-of-requires : tie.Need-settings-of-requires
-settings-of-requires c κs = search needs
+of-values-requires : tie.Need-of-values-requires
+of-values-requires c κs = search needs
 
 run-with-requires : tie.Need-run-with-requires
 run-with-requires c κs = search needs
@@ -51,7 +51,7 @@ returns c =
     let ran = n .before .before .before .before .before .run-with .ensures in
     let z = c .before .before .before .before .before .before .before .if1 .taken in
     let w = c .before .before .before .before .write-look .ensures in
-    rw (← (n .before .before .before .before .before .before .before .before .settings-of .ensures))
+    rw (← (n .before .before .before .before .before .before .before .before .of-values .ensures))
     (record {
       run = answered _ _ _ _ _ _ _ _ _ _ _ _ _ ran _ (n .number .ensures);
       shown = shown _ _ _ _ _ _ _ _ _ _ _ _ _ ran _ (n .number .ensures) posed (given n .args .pose .now) _ z (w .0);
@@ -68,7 +68,7 @@ returns-2 : tie.Need-returns-2
 returns-2 c =
     let n = c .before in
     let ran = n .before .before .before .before .before .run-with .ensures in
-    rw (← (n .before .before .before .before .before .before .before .before .settings-of .ensures))
+    rw (← (n .before .before .before .before .before .before .before .before .of-values .ensures))
     (record {
       run = answered _ _ _ _ _ _ _ _ _ _ _ _ _ ran _ (n .number .ensures);
       shown = unshown _ _ _ _ _ _ _ _ _ _ _ _ _ ran _ (n .number .ensures) _ (given n .args .pose .now) (c .if1 .left);
@@ -79,7 +79,7 @@ pub weqhaso-look-spec : {M : Type 1} → statement M
 weqhaso-look-spec =
     tie.close
     (tie.spec
-    settings-of-requires
+    of-values-requires
     run-with-requires
     number-requires
     write-look-requires

@@ -9,8 +9,8 @@ use Rattle.exports.proofs.Laws.{record-end, record-answered}
 use Rattle.exports.proofs.weqhaso_record.Statement.{statement}
 use Rattle.exports.proofs.weqhaso_record.Tie as tie
 
-settings-of-requires : tie.Need-settings-of-requires
-settings-of-requires c κs = search needs
+of-values-requires : tie.Need-of-values-requires
+of-values-requires c κs = search needs
 
 record-run-requires : tie.Need-record-run-requires
 record-run-requires c κs = search needs
@@ -25,9 +25,9 @@ add-bytes : tie.Need-add-bytes
 add-bytes c =
     let line = c .before .before in
     let k = line .before .before .before .before .before .before .before in
-    let a = k .before .before .before .before .before .before .before .before .before in
+    let a = k .before .before .before .before .before .before .before .before .before .before in
     let end = record-end _ _ _ _ _ _ _ _ (λ z. record-starts _ _ _ _ _ _ z) (k .record-run .ensures) _ (line .before .number-byte .ensures) (c .before .if1 .taken) in
-    omega (arith, line .line-bytes .ensures, end .0, end .1, a .good .1 .1 .1 .1 .1 .1 .1 .1 .1 .1 .1 .0)
+    omega (arith, line .line-bytes .ensures, end .0, end .1, a .good .1 .1 .1 .1 .1 .0)
 
 mul-result : tie.Need-mul-result
 mul-result c = search needs
@@ -48,14 +48,14 @@ returns : tie.Need-returns
 returns c =
     let line = c .before .before in
     let k = line .before .before .before .before .before .before .before in
-    record-answered _ _ _ _ _ _ _ _ (λ z. record-starts _ _ _ _ _ _ z) (rw (k .before .before .before .settings-of .ensures) at (k .record-run .ensures)) _ (line .before .number-byte .ensures)
+    record-answered _ _ _ _ _ _ _ _ (λ z. record-starts _ _ _ _ _ _ z) (rw (k .before .before .before .of-values .ensures) at (k .record-run .ensures)) _ (line .before .number-byte .ensures)
     (c .before .if1 .bytes) (⊎-elim (λ x. inl (x .0 .taken, x .2 ∙ ap (λ (n : ℕ). k .record-run .result .recorder .at + n) (line .line-bytes .ensures))) (λ x. inr (x .0 .left, x .1)) (c .before .if1 .came))
 
 pub weqhaso-record-spec : {M : Type 1} → statement M
 weqhaso-record-spec =
     tie.close
     (tie.spec
-    settings-of-requires
+    of-values-requires
     record-run-requires
     number-byte-requires
     line-bytes-requires

@@ -4,8 +4,8 @@ use Rattle.exports.proofs.Laws.{answered-run}
 use Rattle.exports.proofs.weqhaso_run.Statement.{statement}
 use Rattle.exports.proofs.weqhaso_run.Tie as tie
 
-settings-of-requires : tie.Need-settings-of-requires
-settings-of-requires c κs = search needs
+of-values-requires : tie.Need-of-values-requires
+of-values-requires c κs = search needs
 
 run-requires : tie.Need-run-requires
 run-requires c κs = search needs
@@ -21,9 +21,9 @@ same-length-2 c = search needs
 
 returns : tie.Need-returns
 returns c =
-    answered-run _ _ _ _ _ _ _ _ _ (rw (c .before .before .before .before .before .before .before .before .settings-of .ensures) at (c .before .before .before .before .before .run .ensures)) (c .number .ensures)
+    answered-run _ _ _ _ _ _ _ _ _ (rw (c .before .before .before .before .before .before .before .before .of-values .ensures) at (c .before .before .before .before .before .run .ensures)) (c .number .ensures)
 
 pub weqhaso-run-spec : {M : Type 1} → statement M
 weqhaso-run-spec =
     tie.close
-    (tie.spec settings-of-requires run-requires number-requires same-length same-length-2 returns)
+    (tie.spec of-values-requires run-requires number-requires same-length same-length-2 returns)

@@ -12,10 +12,10 @@ abbrev Run : Type 0
 Run = tie.After-number
 
 abbrev given : Run → tie.Start
-given n = n .before .before .before .before .before .before .before .before .before .before .before .before .before .before .before
+given n = n .before .before .before .before .before .before .before .before .before .before .before .before .before .before .before .before
 
-settings-of-requires : tie.Need-settings-of-requires
-settings-of-requires c κs = search needs
+of-values-requires : tie.Need-of-values-requires
+of-values-requires c κs = search needs
 
 run-with-requires : tie.Need-run-with-requires
 run-with-requires c κs = search needs
@@ -41,7 +41,7 @@ returns : tie.Need-returns
 returns c =
     let n = c .before .before .before .before .before in
     let ran = n .before .before .before .before .before .run-with .ensures in
-    rw (← (n .before .before .before .before .before .before .before .before .settings-of .ensures))
+    rw (← (n .before .before .before .before .before .before .before .before .of-values .ensures))
     (record {
       run = answered _ _ _ _ _ _ _ _ _ _ _ _ _ ran _ (n .number .ensures);
       numbers = shown _ _ _ _ _ _ _ _ _ _ _ _ _ ran _ (n .number .ensures) benchNumbers (given n .args .state .now) _
@@ -58,7 +58,7 @@ returns-2 : tie.Need-returns-2
 returns-2 c =
     let n = c .before in
     let ran = n .before .before .before .before .before .run-with .ensures in
-    rw (← (n .before .before .before .before .before .before .before .before .settings-of .ensures))
+    rw (← (n .before .before .before .before .before .before .before .before .of-values .ensures))
     (record {
       run = answered _ _ _ _ _ _ _ _ _ _ _ _ _ ran _ (n .number .ensures);
       numbers = unshown _ _ _ _ _ _ _ _ _ _ _ _ _ ran _ (n .number .ensures) _ (given n .args .state .now) (c .if1 .left);
@@ -68,7 +68,7 @@ pub weqhaso-state-spec : {M : Type 1} → statement M
 weqhaso-state-spec =
     tie.close
     (tie.spec
-    settings-of-requires
+    of-values-requires
     run-with-requires
     number-requires
     write-bench-requires

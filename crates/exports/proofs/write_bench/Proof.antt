@@ -1,12 +1,13 @@
 -- `exports::write_bench` meets its contract: `Writing` holds at each train. Assumes nothing.
-use Prim.Native.Nat.{_-_}
+use Prim.Native.Nat.{_+_, _-_, _<_}
 use native.Mathlib.Omega.{arith}
 use mathlib.Core.Path.{ap, _∙_}
 use mathlib.Core.List.{[]}
-use lib.ListN.{length-set}
+use lib.ListN.{length, length-set}
 use borrow.Author.Needs.{needs}
+use Rattle.trains.specs.declared.Entry.{Entry}
 use Rattle.trains.specs.Trains.{since}
-use Rattle.exports.specs.State.{standingNumber, benchNumbers}
+use Rattle.exports.specs.State.{standingNumber, kindNumber, benchNumbers}
 use Rattle.exports.proofs.State.{four-filled, four-long, Writing, writing-start, writing-room, writing-next, writing-end}
 use Rattle.exports.proofs.write_bench.Statement.{statement}
 use Rattle.exports.proofs.write_bench.Tie as tie
@@ -16,6 +17,23 @@ Inv-loop state₀ table n₀ i₀ state n i = Writing table state₀ state n i
 
 abbrev μ-loop : tie.MeasureT-loop
 μ-loop state₀ table n₀ i₀ state n i = 97 - n
+
+-- ---- at a train
+
+abbrev Turn : Type 0
+Turn = tie.In-loop Inv-loop μ-loop
+
+abbrev given : Turn → tie.Start Inv-loop μ-loop
+given c = c .before .before .before .before .before .before .before .before .before
+
+-- there are three places for it
+room : (c : Turn) → c .before .loop .i + 2 < length (c .before .loop .state)
+room c =
+    let k = c .before .loop in
+    let a = given c in
+    writing-room (a .args .b .table) _ (four-long (a .args .state .now) _ _ _ _ (a .pre)) (k .state) (k .n) (k .i) (k .inv) (c .loop-test .taken)
+
+-- ----
 
 slice-write-state : tie.Need-slice-write-state Inv-loop μ-loop
 slice-write-state c = search needs
@@ -41,8 +59,8 @@ slice-write-state-4 c = rw (length-set, length-set, length-set) (omega (arith, c
 loop-holds : tie.Need-loop-holds Inv-loop μ-loop
 loop-holds c = let a = c .before .before .before .before .before .before .before .args in writing-start (a .b .table) _
 
-standing-of-requires : tie.Need-standing-of-requires Inv-loop μ-loop
-standing-of-requires c κs = search needs
+entry-of-requires : tie.Need-entry-of-requires Inv-loop μ-loop
+entry-of-requires c κs = search needs
 
 standing-number-requires : tie.Need-standing-number-requires Inv-loop μ-loop
 standing-number-requires c κs = search needs
@@ -51,11 +69,7 @@ mul-state : tie.Need-mul-state Inv-loop μ-loop
 mul-state c = search needs
 
 slice-write-state-5 : tie.Need-slice-write-state-5 Inv-loop μ-loop
-slice-write-state-5 c =
-    let k = c .before .before .before .loop in
-    let a = c .before .before .before .before .before .before .before .before .before .before .before in
-    let room = writing-room (a .args .b .table) _ (four-long (a .args .state .now) _ _ _ _ (a .pre)) (k .state) (k .n) (k .i) (k .inv) (c .before .before .loop-test .taken) in
-    omega (arith, room)
+slice-write-state-5 c = omega (arith, room (c .before .before))
 
 since-of-requires : tie.Need-since-of-requires Inv-loop μ-loop
 since-of-requires c κs = search needs
@@ -67,11 +81,19 @@ mul-state-2 : tie.Need-mul-state-2 Inv-loop μ-loop
 mul-state-2 c = search needs
 
 slice-write-state-6 : tie.Need-slice-write-state-6 Inv-loop μ-loop
-slice-write-state-6 c =
-    let k = c .before .before .before .before .loop in
-    let a = c .before .before .before .before .before .before .before .before .before .before .before .before in
-    let room = writing-room (a .args .b .table) _ (four-long (a .args .state .now) _ _ _ _ (a .pre)) (k .state) (k .n) (k .i) (k .inv) (c .before .before .before .loop-test .taken) in
-    rw length-set room
+slice-write-state-6 c = rw length-set (omega (arith, room (c .before .before .before)))
+
+kind-number-requires : tie.Need-kind-number-requires Inv-loop μ-loop
+kind-number-requires c κs = search needs
+
+add-state-2 : tie.Need-add-state-2 Inv-loop μ-loop
+add-state-2 c = search needs
+
+mul-state-3 : tie.Need-mul-state-3 Inv-loop μ-loop
+mul-state-3 c = search needs
+
+slice-write-state-7 : tie.Need-slice-write-state-7 Inv-loop μ-loop
+slice-write-state-7 c = rw (length-set, length-set) (room (c .before .before .before .before))
 
 add-n : tie.Need-add-n Inv-loop μ-loop
 add-n c = search needs
@@ -84,14 +106,14 @@ loop-less c = search needs
 
 loop-again : tie.Need-loop-again Inv-loop μ-loop
 loop-again c =
-    let at-standing-of = c .before .before in
-    let at-loop-test = at-standing-of .before in
-    let at-loop = at-loop-test .before in
-    let a = at-loop .before .before .before .before .before .before .before .before in
-    let k = at-loop .loop in
-    let e = at-standing-of .standing-of .ensures in
+    let at-entry-of = c .before .before .before in
+    let t = at-entry-of .before in
+    let a = given t in
+    let k = t .before .loop in
+    let e = at-entry-of .entry-of .ensures in
     writing-next (a .args .b .table) _ (four-long (a .args .state .now) _ _ _ _ (a .pre)) (k .state) (k .n) (k .i) (k .inv)
-    (at-loop-test .loop-test .taken) _ _ (c .before .standing-number .ensures ∙ ap standingNumber e) (c .since-of .ensures ∙ ap since e)
+    (t .loop-test .taken) _ _ _ (c .before .before .standing-number .ensures ∙ ap (λ (x : Entry). standingNumber (x .standing)) e)
+    (c .before .since-of .ensures ∙ ap (λ (x : Entry). since (x .standing)) e) (c .kind-number .ensures ∙ ap kindNumber e)
 
 same-length : tie.Need-same-length Inv-loop μ-loop
 same-length c =
@@ -122,7 +144,7 @@ write-bench-spec =
     command-number-requires
     slice-write-state-4
     loop-holds
-    standing-of-requires
+    entry-of-requires
     standing-number-requires
     mul-state
     slice-write-state-5
@@ -130,6 +152,10 @@ write-bench-spec =
     add-state
     mul-state-2
     slice-write-state-6
+    kind-number-requires
+    add-state-2
+    mul-state-3
+    slice-write-state-7
     add-n
     add-i
     loop-less
