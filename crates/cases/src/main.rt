@@ -1,5 +1,5 @@
 // The bench cases a to m of document 01 through the built functions, one line each; what the bench shows along its sample run, and a cabinet
-// alone; and its sample record with the report.
+// alone; trains of four kinds; and its sample record with the report.
 // A step shows 0 (taken with no command), D or U (taken, with that command) or its refusal number; `second/expected` has the same lines.
 use arm::Gate;
 use arm::Reading;
@@ -10,6 +10,9 @@ use cabinet::Cabinet;
 use cabinet::Stepped;
 use libc::STDOUT_FILENO;
 use runs::Step;
+use settings::Kind;
+use settings::Settings;
+use settings::Times;
 use settings::Verdict;
 
 // ---- what is shown
@@ -27,13 +30,17 @@ fn show_verdict(v: Verdict) {
     show(settings::number(v) as u64);
 }
 
-fn show_answer(a: Answer) {
-    let letter = runs::order_byte(a);
+// A step by its refusal number and the letter of its command.
+fn show_step(number: u8, letter: u8) {
     if letter == 0 {
-        show(runs::number_byte(a) as u64);
+        show(number as u64);
     } else {
         print(&[b' ', letter]);
     }
+}
+
+fn show_answer(a: Answer) {
+    show_step(runs::number_byte(a), runs::order_byte(a));
 }
 
 // What a step answered, and the bench after it.
@@ -84,7 +91,7 @@ fn after(b: Bench, x: Step) -> Bench {
 
 // From a fresh bench: train 1 approaches at 0; the command down at 1.
 fn at_1(start: Bench) -> Bench {
-    let b = after(start, Step::Approach(1));
+    let b = after(start, Step::Approach(Kind::Loaded, 1));
     after(b, Step::Clock(90.0))
 }
 
@@ -130,9 +137,9 @@ fn cases_e_f() {
 // Approaches of trains 0, 97 and 96.
 fn case_g() {
     print(b"g");
-    let b = shown(fresh().approach(0));
-    let c = shown(b.approach(97));
-    shown(c.approach(96));
+    let b = shown(fresh().approach(Kind::Loaded, 0));
+    let c = shown(b.approach(Kind::Loaded, 97));
+    shown(c.approach(Kind::Loaded, 96));
     print(b"\n");
 }
 
@@ -149,11 +156,11 @@ fn cases_h_i() {
 // Train 1 inside at 4: approach of 2, leave of 1, clock; and leave of 1, approach of 2, clock.
 fn case_j() {
     print(b"j");
-    let b = shown(inside_at_4(fresh()).approach(2));
+    let b = shown(inside_at_4(fresh()).approach(Kind::Loaded, 2));
     let c = shown(b.leave(1));
     shown(c.clock(0.0));
     let d = shown(inside_at_4(fresh()).leave(1));
-    let e = shown(d.approach(2));
+    let e = shown(d.approach(Kind::Loaded, 2));
     shown(e.clock(90.0));
     print(b"\n");
 }
@@ -245,7 +252,7 @@ fn showing(what: Display, b: Bench, x: Step) -> Bench {
 fn sample_moments(what: Display) {
     let start = fresh();
     show_bench(what, start);
-    let b = showing(what, start, Step::Approach(1));
+    let b = showing(what, start, Step::Approach(Kind::Loaded, 1));
     let b = showing(what, b, Step::Clock(90.0));
     let b = showing(what, b, Step::Clock(45.0));
     let b = showing(what, b, Step::Clock(0.0));
@@ -277,7 +284,7 @@ fn present_along_sample() {
     let start = cabinet::start(worked::settings_k()).cabinet;
     print(b"present");
     show(start.trains_present() as u64);
-    let c = counted(start.approach(1));
+    let c = counted(start.approach(Kind::Loaded, 1));
     let c = counted(c.clock());
     let c = counted(c.clock());
     let c = counted(c.clock());
@@ -292,17 +299,17 @@ fn present_along_sample() {
 fn cabinet_alone() {
     let fresh = cabinet::start(worked::settings_k()).cabinet;
     print(b"cabinet");
-    let c = heard(fresh.approach(1));
+    let c = heard(fresh.approach(Kind::Loaded, 1));
     let c = heard(c.clock());
     let c = heard(c.clock());
     let c = heard(c.clock());
     let c = heard(c.clock());
     let c = heard(c.leave(1));
     heard(c.clock());
-    let c = heard(fresh.approach(0));
-    let c = heard(c.approach(97));
-    let c = heard(c.approach(1));
-    let c = heard(c.approach(1));
+    let c = heard(fresh.approach(Kind::Loaded, 0));
+    let c = heard(c.approach(Kind::Loaded, 97));
+    let c = heard(c.approach(Kind::Loaded, 1));
+    let c = heard(c.approach(Kind::Loaded, 1));
     let c = heard(c.leave(2));
     let c = heard(c.leave(1));
     heard(c.leave(1));
@@ -312,12 +319,130 @@ fn cabinet_alone() {
     print(b"\n");
 }
 
+// ---- four kinds of train
+
+// Kinds with times of their own: 6 and 9, 3 and 4, 4 and 6, and of kind 4 these.
+fn mixed(earliest: u32, latest: u32) -> Settings {
+    worked::settings_mixed(Times {
+        earliest: earliest,
+        latest: latest,
+    })
+}
+
+// A list of at most 17 steps from a fresh bench: what each answered.
+fn show_list(letters: &[u8], numbers: &[u32], readings: &[f32]) {
+    let mut answers = [0u8; 17];
+    let mut orders = [0u8; 17];
+    runs::run(
+        mixed(5, 11),
+        letters,
+        numbers,
+        readings,
+        &mut answers,
+        &mut orders,
+    );
+    for i in 0..17 {
+        if i < letters.len() {
+            show_step(answers[i], orders[i]);
+        }
+    }
+    print(b"\n");
+}
+
+// Four trains, one of each kind, come together: each may go inside from its own due instant on.
+fn together() {
+    print(b"kinds");
+    show_list(
+        b"ABEFTTTOOTOOTOOTO",
+        &[1u32, 2, 3, 4, 0, 0, 0, 2, 3, 0, 3, 4, 0, 4, 1, 0, 1],
+        &[
+            0.0f32,
+            0.0,
+            0.0,
+            0.0,
+            90.0,
+            45.0,
+            0.0,
+            0.0,
+            0.0,
+            0.0,
+            0.0,
+            0.0,
+            0.0,
+            0.0,
+            0.0,
+            0.0,
+            0.0,
+        ],
+    );
+}
+
+// A train of kind 1 approaches at 0 and one of kind 2 at 1, which is due before it and goes inside before it.
+fn due_order() {
+    print(b"order");
+    show_list(
+        b"ATBTTTOOLTTOL",
+        &[1u32, 0, 2, 0, 0, 0, 1, 2, 2, 0, 0, 1, 1],
+        &[
+            0.0f32,
+            90.0,
+            0.0,
+            90.0,
+            45.0,
+            0.0,
+            0.0,
+            0.0,
+            0.0,
+            0.0,
+            0.0,
+            0.0,
+            0.0,
+        ],
+    );
+}
+
+// The train of the fast kind is at its latest, and the slow one that approached before it still has time.
+fn latest_first() {
+    print(b"latest");
+    show_list(
+        b"ATBTTTTTOT",
+        &[1u32, 0, 2, 0, 0, 0, 0, 0, 2, 0],
+        &[0.0f32, 90.0, 0.0, 90.0, 45.0, 0.0, 0.0, 0.0, 0.0, 0.0],
+    );
+}
+
+// Refusals 1, 2 and 3 by the times of kind 4 alone.
+fn fourth_kind() {
+    print(b"kind4");
+    show_verdict(settings::check(mixed(5, 11)));
+    show_verdict(settings::check(mixed(0, 11)));
+    show_verdict(settings::check(mixed(5, 4)));
+    show_verdict(settings::check(mixed(5, 60001)));
+    show_verdict(settings::check(mixed(2, 8)));
+    show_verdict(settings::check(mixed(5, 12)));
+    print(b"\n");
+}
+
+// A cabinet alone hears both approach, and the fast one leave.
+fn kinds_alone() {
+    let fresh = cabinet::start(mixed(5, 11)).cabinet;
+    print(b"alone");
+    let c = heard(fresh.approach(Kind::Loaded, 1));
+    let c = heard(c.clock());
+    let c = heard(c.approach(Kind::Empty, 2));
+    let c = heard(c.clock());
+    let c = heard(c.leave(2));
+    let c = heard(c.clock());
+    heard(c.clock());
+    print(b"\n");
+}
+
 // ---- the sample record
 
-// The sample, whole, and its report: 19 lines of 15 bytes, and 3 of 19.
+// The sample, whole, and its report: 25 lines of 15 bytes, and 3 of 19.
 fn sample() {
     let mut answers = [0u8; 8];
-    let mut text = [0u8; 285];
+    let mut text = [0u8; 375];
     let mut lines = [0u8; 57];
     recording::record_run(
         worked::settings_k(),
@@ -346,5 +471,10 @@ fn main() {
     sample_moments(Display::Gate);
     present_along_sample();
     cabinet_alone();
+    together();
+    due_order();
+    fourth_kind();
+    latest_first();
+    kinds_alone();
     sample();
 }

@@ -58,6 +58,25 @@ thirteen-small s a =
     let one = f .latest Loaded in
     let two = f .latest Empty in
     let three = f .latest Engine in
-    let four = f .latest RailCar in
-    (omega arith, (omega arith, (omega arith, (omega arith, (omega arith, (omega arith, (omega arith,
-    (omega arith, (omega arith, (omega arith, (omega arith, (omega arith, (omega arith, tt)))))))))))))
+    let four = f .latest RailCar in (
+      omega arith,
+      (
+        omega arith,
+        (
+          omega arith,
+          (
+            omega arith,
+            (
+              omega arith,
+              (
+                omega arith,
+                (
+                  omega arith,
+                  (omega arith, (omega arith, (omega arith, (omega arith, (omega arith, (omega arith, tt)))))),
+                ),
+              ),
+            ),
+          ),
+        ),
+      ),
+    )

@@ -33,7 +33,7 @@ room c =
     let a = given c in
     writing-room (a .args .b .table) _ (four-long (a .args .state .now) _ _ _ _ (a .pre)) (k .state) (k .n) (k .i) (k .inv) (c .loop-test .taken)
 
--- ----
+-- ---- the whole
 
 slice-write-state : tie.Need-slice-write-state Inv-loop μ-loop
 slice-write-state c = search needs
