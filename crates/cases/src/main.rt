@@ -329,7 +329,17 @@ fn mixed(earliest: u32, latest: u32) -> Settings {
     })
 }
 
-// A list of at most 17 steps from a fresh bench: what each answered.
+// What each of the first n steps answered.
+fn show_steps(n: usize, answers: [u8; 17], orders: [u8; 17]) {
+    for i in 0..17 {
+        if i < n {
+            show_step(answers[i], orders[i]);
+        }
+    }
+    print(b"\n");
+}
+
+// A list of at most 17 steps from a fresh bench.
 fn show_list(letters: &[u8], numbers: &[u32], readings: &[f32]) {
     let mut answers = [0u8; 17];
     let mut orders = [0u8; 17];
@@ -341,12 +351,7 @@ fn show_list(letters: &[u8], numbers: &[u32], readings: &[f32]) {
         &mut answers,
         &mut orders,
     );
-    for i in 0..17 {
-        if i < letters.len() {
-            show_step(answers[i], orders[i]);
-        }
-    }
-    print(b"\n");
+    show_steps(letters.len(), answers, orders);
 }
 
 // Four trains, one of each kind, come together: each may go inside from its own due instant on.
@@ -425,16 +430,17 @@ fn fourth_kind() {
 
 // A cabinet alone hears both approach, and the fast one leave.
 fn kinds_alone() {
-    let fresh = cabinet::start(mixed(5, 11)).cabinet;
     print(b"alone");
-    let c = heard(fresh.approach(Kind::Loaded, 1));
-    let c = heard(c.clock());
-    let c = heard(c.approach(Kind::Empty, 2));
-    let c = heard(c.clock());
-    let c = heard(c.leave(2));
-    let c = heard(c.clock());
-    heard(c.clock());
-    print(b"\n");
+    let mut answers = [0u8; 17];
+    let mut orders = [0u8; 17];
+    alone::run(
+        mixed(5, 11),
+        b"ATBTLTT",
+        &[1u32, 0, 2, 0, 2, 0, 0],
+        &mut answers,
+        &mut orders,
+    );
+    show_steps(7, answers, orders);
 }
 
 // ---- the sample record

@@ -1,26 +1,14 @@
--- `cases::show_list`: it reads no place beyond the 17. Assumes nothing.
+-- `cases::show_steps`: it reads no place beyond the 17. Assumes nothing.
 use Prim.Native.Nat.{_-_, _≤_}
 use borrow.Author.Needs.{needs}
-use Rattle.cases.proofs.show_list.Statement.{statement}
-use Rattle.cases.proofs.show_list.Tie as tie
+use Rattle.cases.proofs.show_steps.Statement.{statement}
+use Rattle.cases.proofs.show_steps.Tie as tie
 
 abbrev Inv-loop : tie.InvT-loop
-Inv-loop letters numbers readings answers orders i₀ t7 i = i ≤ 17
+Inv-loop n answers orders i₀ t7 i = i ≤ 17
 
 abbrev μ-loop : tie.MeasureT-loop
-μ-loop letters numbers readings answers orders i₀ t7 i = 17 - i
-
-mixed-requires : tie.Need-mixed-requires Inv-loop μ-loop
-mixed-requires c κs = search needs
-
-slice-aggregate-run : tie.Need-slice-aggregate-run Inv-loop μ-loop
-slice-aggregate-run c = search needs
-
-slice-aggregate-run-2 : tie.Need-slice-aggregate-run-2 Inv-loop μ-loop
-slice-aggregate-run-2 c = search needs
-
-run-requires : tie.Need-run-requires Inv-loop μ-loop
-run-requires c κs = search needs
+μ-loop n answers orders i₀ t7 i = 17 - i
 
 loop-holds : tie.Need-loop-holds Inv-loop μ-loop
 loop-holds c = search needs
@@ -52,16 +40,12 @@ print-requires c κs = search needs
 returns : tie.Need-returns Inv-loop μ-loop
 returns c = search needs
 
-pub show-list-spec : {M : Type 1} → statement M
-show-list-spec =
+pub show-steps-spec : {M : Type 1} → statement M
+show-steps-spec =
     tie.close
     (tie.spec
     Inv-loop
     μ-loop
-    mixed-requires
-    slice-aggregate-run
-    slice-aggregate-run-2
-    run-requires
     loop-holds
     array-read-show-step
     array-read-show-step-2
