@@ -4,18 +4,19 @@
 //   rustc -O --edition 2021 tests/compare.rs -L target/staticlib -l static=exports -o target/compare && target/compare
 //
 // Random lists of steps (refused ones among them; sensible and absurd readings, as f32 bit patterns; 1 to 96 trains; settings
-// that are refused) through `weqhaso_run`: every answer, every command, and the places beyond the list. The same lists through
-// `weqhaso_state`, with enough places and too few: also the bench after the list. The same lists through `weqhaso_look`, in
-// the same way: the pose by its bits, the gate and the trains present. The same lists with two neighbours swapped that are
-// accepted, about different trains, no clock steps, and not an approach and a leave: all but the place of a command between
-// the two stays. The same lists through `weqhaso_record`, into records just long enough, one byte shorter, longer and of any
-// length: every answer, every byte, and how many are used. Records of the accepted steps, whole and damaged, through
-// `weqhaso_read`: number and line; and through `weqhaso_report`, into buffers just long enough, one byte shorter, and longer:
-// every byte, and how many are used. Long records about the longest text that is reported, 65,535 bytes. The stretches of
-// these records and of some that are several times as long, one by one through `weqhaso_start`, `weqhaso_next_lowered` and
-// `weqhaso_next_occupied`, and the instants of `weqhaso_below`. Lists of what a cabinet alone hears through `weqhaso_cabinet`:
-// every answer, every command, and the places beyond the list. Ten million clock steps, up to the last instant, of the bench
-// and of a cabinet alone. A mismatch prints the input that shows it.
+// that are refused; four kinds, alike or each with its own times) through `weqhaso_run`: every answer, every command, and the
+// places beyond the list; also with too few settings and with values behind them. The same lists through `weqhaso_state`, with
+// enough places and too few: also the bench after the list. The same lists through `weqhaso_look`, in the same way: the pose
+// by its bits, the gate and the trains present. The same lists with two neighbours swapped that are accepted, about different
+// trains, no clock steps, and not an approach and a leave: all but the place of a command between the two stays. The same
+// lists through `weqhaso_record`, into records just long enough, one byte shorter, longer and of any length: every answer,
+// every byte, and how many are used. Records of the accepted steps, whole and damaged, through `weqhaso_read`: number and
+// line; and through `weqhaso_report`, into buffers just long enough, one byte shorter, and longer: every byte, and how many
+// are used. Long records about the longest text that is reported, 65,535 bytes. The stretches of these records and of some
+// that are several times as long, one by one through `weqhaso_start`, `weqhaso_next_lowered` and `weqhaso_next_occupied`, and
+// the instants of `weqhaso_below`. Lists of what a cabinet alone hears through `weqhaso_cabinet`: every answer, every command,
+// and the places beyond the list. Ten million clock steps, up to the last instant, of the bench and of a cabinet alone. A
+// mismatch prints the input that shows it.
 //
 // The library keeps two trains beside its table, the soonest due one and the coming one that is first at its latest; the second
 // program looks through the whole table each time. So there are also lists made for these two trains to change hands at nearly
@@ -27,19 +28,14 @@ mod second;
 
 use second::{
     angles_of, check, lowered_runs, occupied_stretches, read, record_line, record_of, report,
-    report_into, ticks_for, Bench, Cabinet, Gate, Recorder, Standing, Stretch, FULL, K,
-    LAST_INSTANT, LAST_LINE, LINE_BYTES, LONGEST_TEXT,
+    report_into, ticks_for, Bench, Cabinet, Gate, Kind, Recorder, Standing, Stretch, FULL, K,
+    KINDS, LAST_INSTANT, LAST_LINE, LINE_BYTES, LONGEST_TEXT, SETTINGS,
 };
 
 extern "C" {
     fn weqhaso_run(
-        e: u32,
-        f: u32,
-        p: u32,
-        q: u32,
-        w: u32,
-        x: u32,
-        y: u32,
+        values: *const u32,
+        values_len: usize,
         letters: *const u8,
         letters_len: usize,
         numbers: *const u32,
@@ -52,13 +48,8 @@ extern "C" {
         orders_len: usize,
     ) -> u8;
     fn weqhaso_state(
-        e: u32,
-        f: u32,
-        p: u32,
-        q: u32,
-        w: u32,
-        x: u32,
-        y: u32,
+        values: *const u32,
+        values_len: usize,
         letters: *const u8,
         letters_len: usize,
         numbers: *const u32,
@@ -73,13 +64,8 @@ extern "C" {
         state_len: usize,
     ) -> u8;
     fn weqhaso_look(
-        e: u32,
-        f: u32,
-        p: u32,
-        q: u32,
-        w: u32,
-        x: u32,
-        y: u32,
+        values: *const u32,
+        values_len: usize,
         letters: *const u8,
         letters_len: usize,
         numbers: *const u32,
@@ -96,13 +82,8 @@ extern "C" {
         look_len: usize,
     ) -> u8;
     fn weqhaso_cabinet(
-        e: u32,
-        f: u32,
-        p: u32,
-        q: u32,
-        w: u32,
-        x: u32,
-        y: u32,
+        values: *const u32,
+        values_len: usize,
         letters: *const u8,
         letters_len: usize,
         numbers: *const u32,
@@ -113,13 +94,8 @@ extern "C" {
         orders_len: usize,
     ) -> u8;
     fn weqhaso_record(
-        e: u32,
-        f: u32,
-        p: u32,
-        q: u32,
-        w: u32,
-        x: u32,
-        y: u32,
+        values: *const u32,
+        values_len: usize,
         letters: *const u8,
         letters_len: usize,
         numbers: *const u32,
@@ -160,10 +136,12 @@ const FULL_YARDS: u32 = 100;
 const HEARD_LISTS: u32 = 3_000;
 const WHOLE: u64 = 99;
 const UNTOUCHED: u8 = 99;
+// The numbers of a bench.
+const STATE: usize = 4 + 3 * 96;
 
 // Bytes that stand for no step, and such as a cabinet does not hear.
-const NO_STEP: &[u8] = b"DUS aolt\0\xff";
-const NOT_HEARD: &[u8] = b"OOODUS alt\0\xff";
+const NO_STEP: &[u8] = b"DUSCG abeolt\0\xff";
+const NOT_HEARD: &[u8] = b"OOODUSCG ablt\0\xff";
 
 // A small generator of numbers (xorshift).
 struct Random(u64);
@@ -185,24 +163,46 @@ impl Random {
     }
 }
 
+// Earliest and latest of each kind, not before this: all alike, or each with its own.
+fn times(r: &mut Random, least: u32, wide: u64) -> [(u32, u32); 4] {
+    let alike = r.below(3) == 0;
+    let mut times = [(0, 0); 4];
+    for k in 0..4 {
+        let e = least + r.below(5 + wide) as u32;
+        times[k] = if alike && k > 0 {
+            times[0]
+        } else {
+            (e, e + r.below(6 + wide) as u32)
+        };
+    }
+    times
+}
+
+// The thirteen settings in their order.
+fn in_order(times: [(u32, u32); 4], others: [u32; 5]) -> [u32; SETTINGS] {
+    let [one, two, three, four] = times;
+    let [p, q, w, x, y] = others;
+    [
+        one.0, one.1, p, q, w, x, y, two.0, two.1, three.0, three.1, four.0, four.1,
+    ]
+}
+
+// The largest difference of latest and earliest.
+fn widest(times: [(u32, u32); 4]) -> u32 {
+    times.map(|(e, f)| f - e).into_iter().max().unwrap()
+}
+
 // Mostly settings that are taken, close to their limits; now and then one that is spoiled.
-fn settings(r: &mut Random) -> [u32; 7] {
+fn settings(r: &mut Random) -> [u32; SETTINGS] {
     let p = r.one_of(&[5760, 2880, 1921, 1919, 1440, 960, 577, 100]);
     let q = r.one_of(&[5760, 2880, 1440, 700]);
     let (d, u) = ((5760 + p - 1) / p, (5760 + q - 1) / q);
-    let e = d + 1 + r.below(5) as u32;
-    let f = e + r.below(6) as u32;
-    let mut s = [
-        e,
-        f,
-        p,
-        q,
-        r.below(6) as u32,
-        d + f - e + r.below(3) as u32,
-        u + r.below(3) as u32,
-    ];
+    let times = times(r, d + 1, 0);
+    let w = r.below(6) as u32;
+    let x = d + widest(times) + r.below(3) as u32;
+    let mut s = in_order(times, [p, q, w, x, u + r.below(3) as u32]);
     if r.below(10) == 0 {
-        let i = r.below(7) as usize;
+        let i = r.below(SETTINGS as u64) as usize;
         s[i] = r.one_of(&[
             0,
             1,
@@ -305,21 +305,26 @@ fn train(r: &mut Random, b: &Bench, many: u64, may: impl Fn(&Standing) -> bool) 
     }
 }
 
-// The bench by numbers: instant, angle, angle before and command, then each train's standing and the instant of its approach.
+// Kinds are 1 to 4.
+fn number_of(kind: Kind) -> u32 {
+    1 + KINDS.iter().position(|k| *k == kind).unwrap() as u32
+}
+
+// The bench by numbers: instant, angle, angle before and command, then each train's standing, the instant of its approach and its kind.
 fn state_of(b: &Bench) -> Vec<u32> {
     let before = b.angle as i32 - b.change;
     let mut state = vec![b.now, b.angle, before as u32, !b.cabinet.up as u32];
     for train in &b.trains {
         state.extend(match train {
-            Standing::Away => [0, 0],
-            Standing::Coming(a) => [1, *a],
-            Standing::Inside(a) => [2, *a],
+            Standing::Away => [0, 0, 0],
+            Standing::Coming(k, a) => [1, *a, number_of(*k)],
+            Standing::Inside(k, a) => [2, *a, number_of(*k)],
         });
     }
     state
 }
 
-fn steps(r: &mut Random, s: &[u32; 7], least: u64) -> List {
+fn steps(r: &mut Random, s: &[u32; SETTINGS], least: u64) -> List {
     let mut list = List::default();
     let Ok(mut b) = Bench::new(s) else {
         list.add('A', 1, 0.0, 1, Ok(' '));
@@ -327,7 +332,7 @@ fn steps(r: &mut Random, s: &[u32; 7], least: u64) -> List {
     };
     let many = r.one_of(&[1, 2, 3, 8, 96]);
     for _ in 0..least + r.below(120) {
-        let (now, due) = (b.now, s[0]);
+        let now = b.now;
         let noise = f32::from_bits(r.next() as u32);
         match r.below(10) {
             0 | 1 => {
@@ -337,19 +342,20 @@ fn steps(r: &mut Random, s: &[u32; 7], least: u64) -> List {
                 } else {
                     1 + (n.max(1) - 1) % many as u32
                 };
-                list.add('A', n, noise, n, b.approach(n));
+                let kind = r.one_of(&KINDS);
+                list.add(kind.letter(), n, noise, n, b.approach(kind, n));
             }
             2 | 3 => {
                 let n = train(
                     r,
                     &b,
                     many,
-                    |t| matches!(t, Standing::Coming(a) if a + due <= now),
+                    |t| matches!(t, Standing::Coming(k, a) if a + k.earliest(s) <= now),
                 );
                 list.add('O', n, noise, n, b.occupy(n));
             }
             4 => {
-                let n = train(r, &b, many, |t| matches!(t, Standing::Inside(_)));
+                let n = train(r, &b, many, |t| matches!(t, Standing::Inside(..)));
                 list.add('L', n, noise, n, b.leave(n));
             }
             _ => {
@@ -364,16 +370,11 @@ fn steps(r: &mut Random, s: &[u32; 7], least: u64) -> List {
 }
 
 // The library's run of a list.
-fn run(s: &[u32; 7], list: &List, answers: &mut [u8], orders: &mut [u8]) -> u8 {
+fn run(s: &[u32], list: &List, answers: &mut [u8], orders: &mut [u8]) -> u8 {
     unsafe {
         weqhaso_run(
-            s[0],
-            s[1],
-            s[2],
-            s[3],
-            s[4],
-            s[5],
-            s[6],
+            s.as_ptr(),
+            s.len(),
             list.letters.as_ptr(),
             list.letters.len(),
             list.numbers.as_ptr(),
@@ -389,7 +390,7 @@ fn run(s: &[u32; 7], list: &List, answers: &mut [u8], orders: &mut [u8]) -> u8 {
 }
 
 // Whether the library answers the list as the second program does, and leaves the places beyond it.
-fn same_run(r: &mut Random, s: &[u32; 7], list: &List) -> bool {
+fn same_run(r: &mut Random, s: &[u32; SETTINGS], list: &List) -> bool {
     let number = check(s);
     let n = list.letters.len();
     let len = n + r.below(3) as usize;
@@ -405,6 +406,25 @@ fn same_run(r: &mut Random, s: &[u32; 7], list: &List) -> bool {
         println!("settings {s:?}: {number} wanted, {got} got\n{list:?}\n{want_answers:?} wanted\n{answers:?} got\n{want_orders:?} wanted\n{orders:?} got");
     }
     same
+}
+
+// Whether fewer than thirteen settings are refused, 1, as the missing ones are 0, and values behind the thirteen change nothing.
+fn same_values(r: &mut Random, s: &[u32; SETTINGS], list: &List) -> bool {
+    let n = list.letters.len();
+    let mut given = s.to_vec();
+    given.extend((0..3).map(|_| r.next() as u32));
+    (0..=given.len()).all(|many| {
+        let (mut answers, mut orders) = (vec![UNTOUCHED; n], vec![UNTOUCHED; n]);
+        let got = run(&given[..many], list, &mut answers, &mut orders);
+        let want = if many < SETTINGS { 1 } else { check(s) };
+        let written = want == 0 && answers == list.answers && orders == list.orders;
+        let left = answers.iter().chain(&orders).all(|b| *b == UNTOUCHED);
+        let same = got == want && if want == 0 { written } else { left };
+        if !same {
+            println!("{many} of the settings {given:?}: {want} wanted, {got} got\n{list:?}");
+        }
+        same
+    })
 }
 
 // What is lent to a run of a list, and what is wanted of it. Spoiled 0, a letter is foreign to the list; 1 to 4, a slice is one place
@@ -423,7 +443,7 @@ struct Lent {
 impl Lent {
     fn new(
         r: &mut Random,
-        s: &[u32; 7],
+        s: &[u32; SETTINGS],
         list: &List,
         foreign: &[u8],
         spoiled: u64,
@@ -461,7 +481,7 @@ impl Lent {
     }
 
     // Whether the number, the answers and the commands are those wanted.
-    fn same(&self, s: &[u32; 7], list: &List, got: u8) -> bool {
+    fn same(&self, s: &[u32; SETTINGS], list: &List, got: u8) -> bool {
         let same = got == self.want
             && self.answers == self.want_answers
             && self.orders == self.want_orders;
@@ -475,16 +495,11 @@ impl Lent {
     }
 
     // The library's run, with the bench after it.
-    fn run_to_state(&mut self, s: &[u32; 7], state: &mut [u32]) -> u8 {
+    fn run_to_state(&mut self, s: &[u32; SETTINGS], state: &mut [u32]) -> u8 {
         unsafe {
             weqhaso_state(
-                s[0],
-                s[1],
-                s[2],
-                s[3],
-                s[4],
-                s[5],
-                s[6],
+                s.as_ptr(),
+                s.len(),
                 self.letters.as_ptr(),
                 self.letters.len(),
                 self.numbers.as_ptr(),
@@ -502,16 +517,11 @@ impl Lent {
     }
 
     // The library's run, with what the bench shows after it.
-    fn run_to_look(&mut self, s: &[u32; 7], pose: &mut [f32], look: &mut [u32]) -> u8 {
+    fn run_to_look(&mut self, s: &[u32; SETTINGS], pose: &mut [f32], look: &mut [u32]) -> u8 {
         unsafe {
             weqhaso_look(
-                s[0],
-                s[1],
-                s[2],
-                s[3],
-                s[4],
-                s[5],
-                s[6],
+                s.as_ptr(),
+                s.len(),
                 self.letters.as_ptr(),
                 self.letters.len(),
                 self.numbers.as_ptr(),
@@ -532,7 +542,7 @@ impl Lent {
 }
 
 // What a cabinet alone hears, with what the second program's answers: trains that are present and others, any number.
-fn hearing(r: &mut Random, s: &[u32; 7]) -> List {
+fn hearing(r: &mut Random, s: &[u32; SETTINGS]) -> List {
     let mut list = List::default();
     let Ok(mut c) = Cabinet::new(s) else {
         list.add('T', 0, 0.0, 0, Ok(' '));
@@ -552,7 +562,10 @@ fn hearing(r: &mut Random, s: &[u32; 7]) -> List {
             _ => 1 + r.below(many as u64) as u32,
         };
         match letter {
-            'A' => list.add('A', n, 0.0, n, c.approach(n)),
+            'A' => {
+                let kind = r.one_of(&KINDS);
+                list.add(kind.letter(), n, 0.0, n, c.approach(kind, n));
+            }
             'L' => list.add('L', n, 0.0, n, c.leave(n)),
             _ => {
                 for _ in 0..1 + r.below(quiet) {
@@ -566,7 +579,7 @@ fn hearing(r: &mut Random, s: &[u32; 7]) -> List {
 
 // The library's cabinet alone, taken through a list.
 fn run_cabinet(
-    s: &[u32; 7],
+    s: &[u32; SETTINGS],
     letters: &[u8],
     numbers: &[u32],
     answers: &mut [u8],
@@ -574,13 +587,8 @@ fn run_cabinet(
 ) -> u8 {
     unsafe {
         weqhaso_cabinet(
-            s[0],
-            s[1],
-            s[2],
-            s[3],
-            s[4],
-            s[5],
-            s[6],
+            s.as_ptr(),
+            s.len(),
             letters.as_ptr(),
             letters.len(),
             numbers.as_ptr(),
@@ -594,7 +602,7 @@ fn run_cabinet(
 }
 
 // Whether it answers the list as the second program's does, and leaves all other places.
-fn same_heard(r: &mut Random, s: &[u32; 7], list: &List, spoiled: u64) -> bool {
+fn same_heard(r: &mut Random, s: &[u32; SETTINGS], list: &List, spoiled: u64) -> bool {
     let mut lent = Lent::new(r, s, list, NOT_HEARD, spoiled, true);
     let got = run_cabinet(
         s,
@@ -631,7 +639,7 @@ impl Given {
 }
 
 // A list of what a cabinet alone hears, its buffers longer, just long enough, too short, and with a foreign letter: how many differ.
-fn heard_differs(r: &mut Random, s: &[u32; 7], list: &List) -> u32 {
+fn heard_differs(r: &mut Random, s: &[u32; SETTINGS], list: &List) -> u32 {
     let spoiled = [WHOLE, 5, 0, 1, 3, 4];
     let differ = spoiled.into_iter().filter(|k| !same_heard(r, s, list, *k));
     differ.count() as u32
@@ -639,12 +647,18 @@ fn heard_differs(r: &mut Random, s: &[u32; 7], list: &List) -> u32 {
 
 // Whether the library leaves the bench after the list as the second program does, with the same answers and commands, and leaves
 // all other places.
-fn same_state(r: &mut Random, s: &[u32; 7], list: &List, spoiled: u64, places: usize) -> bool {
-    let mut lent = Lent::new(r, s, list, NO_STEP, spoiled, places >= 196);
+fn same_state(
+    r: &mut Random,
+    s: &[u32; SETTINGS],
+    list: &List,
+    spoiled: u64,
+    places: usize,
+) -> bool {
+    let mut lent = Lent::new(r, s, list, NO_STEP, spoiled, places >= STATE);
     let mut state: Vec<u32> = (0..places).map(|_| r.next() as u32).collect();
     let mut want_state = state.clone();
     if lent.want == 0 {
-        want_state[..196].copy_from_slice(&list.state);
+        want_state[..STATE].copy_from_slice(&list.state);
     }
     let got = lent.run_to_state(s, &mut state);
     let same = state == want_state;
@@ -657,7 +671,13 @@ fn same_state(r: &mut Random, s: &[u32; 7], list: &List, spoiled: u64, places: u
 
 // Whether the bench after the list shows what the second program's shows: pose, gate and trains present, with the same answers
 // and commands; and the library leaves all other places.
-fn same_look(r: &mut Random, s: &[u32; 7], list: &List, spoiled: u64, places: [usize; 2]) -> bool {
+fn same_look(
+    r: &mut Random,
+    s: &[u32; SETTINGS],
+    list: &List,
+    spoiled: u64,
+    places: [usize; 2],
+) -> bool {
     let mut lent = Lent::new(
         r,
         s,
@@ -686,7 +706,7 @@ fn same_look(r: &mut Random, s: &[u32; 7], list: &List, spoiled: u64, places: [u
 
 // Whether the library answers clock steps with the arm at 90 degrees, one more than there are instants, as the second program
 // does: 10 at the last of them; and its cabinet alone in the same way.
-fn same_clock(s: &[u32; 7]) -> bool {
+fn same_clock(s: &[u32; SETTINGS]) -> bool {
     let n = LAST_INSTANT as usize + 1;
     let mut b = Bench::new(s).unwrap();
     let mut c = Cabinet::new(s).unwrap();
@@ -719,7 +739,7 @@ fn same_clock(s: &[u32; 7]) -> bool {
 }
 
 // What the second program records of the list: each step's answer and the bytes used, or the refusal of the start.
-fn recorded(s: &[u32; 7], list: &List, out: &mut [u8]) -> Result<(Vec<u8>, usize), u8> {
+fn recorded(s: &[u32; SETTINGS], list: &List, out: &mut [u8]) -> Result<(Vec<u8>, usize), u8> {
     let mut recorder = Recorder::start(s, out)?;
     let mut answers = Vec::new();
     for (i, letter) in list.letters.iter().enumerate() {
@@ -734,7 +754,7 @@ fn recorded(s: &[u32; 7], list: &List, out: &mut [u8]) -> Result<(Vec<u8>, usize
 
 // The library's recording of a list.
 fn record(
-    s: &[u32; 7],
+    s: &[u32; SETTINGS],
     letters: &[u8],
     numbers: &[u32],
     readings: &[f32],
@@ -743,13 +763,8 @@ fn record(
 ) -> u64 {
     unsafe {
         weqhaso_record(
-            s[0],
-            s[1],
-            s[2],
-            s[3],
-            s[4],
-            s[5],
-            s[6],
+            s.as_ptr(),
+            s.len(),
             letters.as_ptr(),
             letters.len(),
             numbers.as_ptr(),
@@ -766,7 +781,7 @@ fn record(
 
 // Whether the library records the list in this many bytes as the second program does, and leaves all other places. Now and then
 // a letter stands for no step, or a slice is one place too short.
-fn same_record(r: &mut Random, s: &[u32; 7], list: &List, bytes: usize) -> bool {
+fn same_record(r: &mut Random, s: &[u32; SETTINGS], list: &List, bytes: usize) -> bool {
     let n = list.letters.len();
     let spoiled = r.below(30);
     let short = |k| n - (spoiled == k) as usize;
@@ -812,7 +827,7 @@ fn damage(r: &mut Random, text: &mut Vec<u8>) {
     let byte = r.below(text.len() as u64) as usize;
     match r.below(8) {
         0 => text[byte] = r.next() as u8,
-        1 => text[byte] = r.one_of(b"0123456789 AOLTDUS"),
+        1 => text[byte] = r.one_of(b"0123456789 ABEFCOLTDUS"),
         2 => drop(text.drain(i..i + 15)),
         3 => {
             let line = text[i..i + 15].to_vec();
@@ -871,7 +886,7 @@ fn walked(r: &mut Random, text: &[u8], next: Next) -> Option<Vec<Stretch>> {
         || unsafe { next(text.as_ptr(), text.len(), places.as_mut_ptr(), 6) } != 14
         || places[..6] != few
         || unsafe { weqhaso_start(places.as_mut_ptr(), places.len()) } != 0
-        || places[..7] != [120, 0, 0, 0, 0, 0, 0]
+        || places[..7] != [210, 0, 0, 0, 0, 0, 0]
     {
         return None;
     }
@@ -977,12 +992,16 @@ struct Hands {
     by_leave: u32,
     of_equals: u32,
     raised: u32,
-    // a train with a lower number approached at the instant of the soonest one's approach
+    // a train approached that is due before the soonest one, or at its instant with a lower number
     by_approach: u32,
     // the train that was first at its latest went inside, and another one was first after it
     by_occupy: u32,
     // refusal 11
     held: u32,
+}
+
+fn is_approach(letter: char) -> bool {
+    Kind::from_letter(letter).is_some()
 }
 
 // The train that is first to reach an instant of its own: that instant, and its number.
@@ -997,7 +1016,7 @@ impl Hands {
         self.by_leave += left as u32;
         self.of_equals += (left && equals) as u32;
         self.raised += (left && command == 'U') as u32;
-        self.by_approach += (letter == 'A' && changed[0]) as u32;
+        self.by_approach += (is_approach(letter) && changed[0]) as u32;
         self.by_occupy += (letter == 'O' && changed[1]) as u32;
     }
 
@@ -1021,13 +1040,13 @@ fn first(b: &Bench, own: impl Fn(&Standing) -> Option<u32>) -> First {
 fn soonest(b: &Bench) -> First {
     first(b, |t| match t {
         Standing::Away => None,
-        Standing::Coming(a) | Standing::Inside(a) => Some(a + b.settings[0]),
+        Standing::Coming(k, a) | Standing::Inside(k, a) => Some(a + k.earliest(&b.settings)),
     })
 }
 
 fn first_latest(b: &Bench) -> First {
     first(b, |t| match t {
-        Standing::Coming(a) => Some(a + b.settings[1]),
+        Standing::Coming(k, a) => Some(a + k.latest(&b.settings)),
         _ => None,
     })
 }
@@ -1041,6 +1060,12 @@ struct Walk<'a> {
 }
 
 impl Walk<'_> {
+    // An approach of some kind.
+    fn approach(&mut self, n: u32) {
+        let kind = self.r.one_of(&KINDS);
+        self.step(kind.letter(), n);
+    }
+
     // A step of a train.
     fn step(&mut self, letter: char, n: u32) {
         let was = [soonest(&self.b), first_latest(&self.b)];
@@ -1083,8 +1108,8 @@ impl Walk<'_> {
 
     // The train comes due and goes inside.
     fn go_inside(&mut self, n: u32) {
-        if let Standing::Coming(a) = self.standing(n) {
-            self.tick_until(a + self.b.settings[0]);
+        if let Standing::Coming(k, a) = self.standing(n) {
+            self.tick_until(a + k.earliest(&self.b.settings));
         }
         self.step('O', n);
     }
@@ -1092,15 +1117,17 @@ impl Walk<'_> {
     // Now and then a step that is refused, with 5 to 9.
     fn refused(&mut self, trains: &[u32]) {
         let n = self.r.one_of(trains);
-        let any = self.r.one_of(&['A', 'O', 'L']);
+        let any = self.r.one_of(&['A', 'B', 'E', 'F', 'O', 'L']);
         let beyond = 97 + self.r.below(9_000) as u32;
         match (self.r.below(8), self.standing(n)) {
             (0, _) => self.step(any, 0),
             (1, _) => self.step(any, beyond),
-            (2, Standing::Away) | (3, Standing::Inside(_)) => self.step('O', n),
-            (2, _) => self.step('A', n),
+            (2, Standing::Away) | (3, Standing::Inside(..)) => self.step('O', n),
+            (2, _) => self.approach(n),
             (3, _) => self.step('L', n),
-            (4, Standing::Coming(a)) if self.b.now < a + self.b.settings[0] => self.step('O', n),
+            (4, Standing::Coming(k, a)) if self.b.now < a + k.earliest(&self.b.settings) => {
+                self.step('O', n)
+            }
             _ => {}
         }
     }
@@ -1151,7 +1178,7 @@ fn relay(w: &mut Walk, trains: &[u32]) {
     let gap = w.r.one_of(&[1, 2, 4, 9]);
     let order = in_some_order(w.r, trains);
     for n in &order {
-        w.step('A', *n);
+        w.approach(*n);
         w.ticks(gap);
     }
     for n in order.iter().cycle().take(5 * order.len()) {
@@ -1160,7 +1187,7 @@ fn relay(w: &mut Walk, trains: &[u32]) {
         w.step('L', *n);
         w.refused(trains);
         w.ticks(gap);
-        w.step('A', *n);
+        w.approach(*n);
     }
 }
 
@@ -1172,7 +1199,7 @@ fn ties(w: &mut Walk, trains: &[u32]) {
     for group in [groups.0, groups.1] {
         w.ticks(9);
         for n in group {
-            w.step('A', *n);
+            w.approach(*n);
         }
     }
     for group in [groups.0, groups.1] {
@@ -1187,7 +1214,7 @@ fn ties(w: &mut Walk, trains: &[u32]) {
     for n in in_some_order(w.r, trains) {
         w.step('L', n);
         if w.r.below(4) == 0 {
-            w.step('A', n);
+            w.approach(n);
         }
         w.ticks(3);
     }
@@ -1197,7 +1224,7 @@ fn ties(w: &mut Walk, trains: &[u32]) {
 // inside, now and then another one, and the clock is held as before.
 fn up_to_latest(w: &mut Walk, trains: &[u32]) {
     for n in in_some_order(w.r, trains) {
-        w.step('A', n);
+        w.approach(n);
         w.ticks(3);
     }
     for _ in 0..2 * trains.len() {
@@ -1205,7 +1232,7 @@ fn up_to_latest(w: &mut Walk, trains: &[u32]) {
             break;
         };
         w.tick_until(instant + 1);
-        let other = w.one_that(trains, |t| matches!(t, Standing::Coming(_)));
+        let other = w.one_that(trains, |t| matches!(t, Standing::Coming(..)));
         let n = w.r.one_of(&[first, first, first, other]);
         w.step('O', n);
     }
@@ -1218,16 +1245,20 @@ fn up_to_latest(w: &mut Walk, trains: &[u32]) {
 // Steps by chance, mostly such as are accepted.
 fn by_chance(w: &mut Walk, trains: &[u32]) {
     for _ in 0..80 {
-        let (now, e) = (w.b.now, w.b.settings[0]);
+        let (now, s) = (w.b.now, w.b.settings);
+        let approach = w.r.one_of(&KINDS).letter();
         let (letter, n) = match w.r.below(8) {
-            0 | 1 => ('A', w.one_that(trains, |t| t == Standing::Away)),
+            0 | 1 => (approach, w.one_that(trains, |t| t == Standing::Away)),
             2 | 3 => (
                 'O',
-                w.one_that(trains, |t| matches!(t, Standing::Coming(a) if a + e <= now)),
+                w.one_that(
+                    trains,
+                    |t| matches!(t, Standing::Coming(k, a) if a + k.earliest(&s) <= now),
+                ),
             ),
             4 => (
                 'L',
-                w.one_that(trains, |t| matches!(t, Standing::Inside(_))),
+                w.one_that(trains, |t| matches!(t, Standing::Inside(..))),
             ),
             _ => ('T', 0),
         };
@@ -1245,7 +1276,7 @@ fn full_yard(w: &mut Walk, trains: &[u32]) {
     let gap = w.r.one_of(&[1, 2, 5]);
     let order = in_some_order(w.r, trains);
     for n in &order {
-        w.step('A', *n);
+        w.approach(*n);
         w.refused(trains);
         w.ticks(gap);
     }
@@ -1267,18 +1298,21 @@ fn full_yard(w: &mut Walk, trains: &[u32]) {
 
 // Settings that are taken; a longer stay for a full yard. E is just above D, or about as far as the look goes under the command
 // down: then the next train decides whether a leave raises the arm.
-fn close_settings(r: &mut Random, full: bool) -> [u32; 7] {
+fn close_settings(r: &mut Random, full: bool) -> [u32; SETTINGS] {
     let p = r.one_of(&[5760, 2880, 1921]);
     let q = r.one_of(&[5760, 2880, 1440]);
     let (d, u) = (ticks_for(p), ticks_for(q));
     let w = r.one_of(&[0, 0, 1, 4, 20, 60_000]);
-    let e = d + 1 + r.below(8) as u32 + r.one_of(&[0, u + w.min(20), 300 * full as u32]);
-    let f = e + r.below(5) as u32 + 500 * full as u32;
-    [e, f, p, q, w, d + f - e, u]
+    let least = d + 1 + r.below(4) as u32 + r.one_of(&[0, u + w.min(20), 300 * full as u32]);
+    let mut times = times(r, least, 4);
+    for t in &mut times {
+        t.1 += 500 * full as u32;
+    }
+    in_order(times, [p, q, w, d + widest(times), u])
 }
 
 // A list in which the kept trains change hands: a full yard, or few trains in three of the ways above.
-fn handed_over(r: &mut Random, hands: &mut Hands, full: bool) -> ([u32; 7], List) {
+fn handed_over(r: &mut Random, hands: &mut Hands, full: bool) -> ([u32; SETTINGS], List) {
     let s = close_settings(r, full);
     let many = if full { 96 } else { 2 + r.below(4) as usize };
     let trains = some_trains(r, many);
@@ -1303,7 +1337,7 @@ fn handed_over(r: &mut Random, hands: &mut Hands, full: bool) -> ([u32; 7], List
 }
 
 // The record of the steps before one that is refused for its train or because the clock is held, and that step's line after it.
-fn up_to_refused(r: &mut Random, s: &[u32; 7], list: &List) -> Vec<u8> {
+fn up_to_refused(r: &mut Random, s: &[u32; SETTINGS], list: &List) -> Vec<u8> {
     let refused = |i: &usize| (5..=11).contains(&list.answers[*i]);
     let steps: Vec<usize> = (0..list.answers.len()).filter(refused).collect();
     let at = r.one_of(&steps);
@@ -1321,17 +1355,17 @@ fn up_to_refused(r: &mut Random, s: &[u32; 7], list: &List) -> Vec<u8> {
 }
 
 // A list run and recorded, its record and one with a refused step read and reported: how many differ.
-fn list_differs(r: &mut Random, s: &[u32; 7], list: &List) -> u32 {
+fn list_differs(r: &mut Random, s: &[u32; SETTINGS], list: &List) -> u32 {
     let (whole, _) = record_of(s, &list.accepted, LONGEST_TEXT).expect("settings that are taken");
     let mut differ = !same_run(r, s, list) as u32;
-    differ += !same_state(r, s, list, WHOLE, 196) as u32;
+    differ += !same_state(r, s, list, WHOLE, STATE) as u32;
     differ += !same_record(r, s, list, whole.len()) as u32;
     differ += text_differs(r, &whole);
     let refused = up_to_refused(r, s, list);
     differ + text_differs(r, &refused)
 }
 
-// The sorts of neighbours that are swapped: their letters in the order of the alphabet.
+// The sorts of neighbours that are swapped: their letters in the order of the alphabet, A for an approach of any kind.
 const PAIRS: [&[u8; 2]; 5] = [b"AA", b"AO", b"OO", b"LO", b"LL"];
 
 // How many neighbours of each sort were swapped; how often the arm rose with the later of two leaves, and then with the other
@@ -1358,7 +1392,14 @@ impl Swaps {
 // The sort of the steps i and i + 1, where they can be swapped: both accepted, about different trains, neither a clock step, and
 // not an approach beside a leave.
 fn swappable(list: &List, i: usize) -> Option<usize> {
-    let mut pair = [list.letters[i], list.letters[i + 1]];
+    let sort_of = |letter: u8| {
+        if is_approach(letter as char) {
+            b'A'
+        } else {
+            letter
+        }
+    };
+    let mut pair = [list.letters[i], list.letters[i + 1]].map(sort_of);
     pair.sort();
     let accepted = list.answers[i..i + 2] == [0, 0];
     let different = list.numbers[i] != list.numbers[i + 1];
@@ -1367,7 +1408,7 @@ fn swappable(list: &List, i: usize) -> Option<usize> {
 }
 
 // What the second program answers to the steps of a list.
-fn answered(s: &[u32; 7], letters: &[u8], numbers: &[u32], readings: &[f32]) -> List {
+fn answered(s: &[u32; SETTINGS], letters: &[u8], numbers: &[u32], readings: &[f32]) -> List {
     let mut b = Bench::new(s).expect("settings that are taken");
     let mut list = List::default();
     for (i, letter) in letters.iter().enumerate() {
@@ -1384,7 +1425,13 @@ fn answered(s: &[u32; 7], letters: &[u8], numbers: &[u32], readings: &[f32]) -> 
 
 // Whether the list with the steps i and i + 1 swapped is answered by the library as by the second program, and as the list is:
 // the same refusal numbers and final state, the same commands after the two, and of the two together the same in the same order.
-fn same_swapped(r: &mut Random, s: &[u32; 7], list: &List, i: usize, swaps: &mut Swaps) -> bool {
+fn same_swapped(
+    r: &mut Random,
+    s: &[u32; SETTINGS],
+    list: &List,
+    i: usize,
+    swaps: &mut Swaps,
+) -> bool {
     let (mut letters, mut numbers) = (list.letters.clone(), list.numbers.clone());
     letters.swap(i, i + 1);
     numbers.swap(i, i + 1);
@@ -1396,7 +1443,7 @@ fn same_swapped(r: &mut Random, s: &[u32; 7], list: &List, i: usize, swaps: &mut
     let mut got = Vec::new();
     for each in [list, &swapped] {
         let mut lent = Lent::new(r, s, each, NO_STEP, WHOLE, true);
-        let mut state = vec![0; 196];
+        let mut state = vec![0; STATE];
         let number = lent.run_to_state(s, &mut state);
         if !lent.same(s, each, number) || state != each.state {
             println!("settings {s:?}, steps {i} and the next swapped: {state:?} got\n{each:?}");
@@ -1425,7 +1472,7 @@ fn same_swapped(r: &mut Random, s: &[u32; 7], list: &List, i: usize, swaps: &mut
 }
 
 // Some neighbours of each sort swapped, one pair at a time: how many differ.
-fn swapped_differ(r: &mut Random, s: &[u32; 7], list: &List, swaps: &mut Swaps) -> u32 {
+fn swapped_differ(r: &mut Random, s: &[u32; SETTINGS], list: &List, swaps: &mut Swaps) -> u32 {
     let mut differ = 0;
     for sort in 0..PAIRS.len() {
         let here = |i: &usize| swappable(list, *i) == Some(sort);
@@ -1457,13 +1504,14 @@ fn main() {
         let list = steps(&mut r, &s, 1);
         tried += list.letters.len() as u64;
         differ += !same_run(&mut r, &s, &list) as u32;
+        differ += !same_values(&mut z, &s, &list) as u32;
         states += (check(&s) == 0) as u32;
-        let enough = 196 + z.below(3) as usize;
-        let any = z.below(197) as usize;
+        let enough = STATE + z.below(3) as usize;
+        let any = z.below(STATE as u64 + 1) as usize;
         let spoiled = z.below(10);
         for (spoiled, places) in [
             (WHOLE, enough),
-            (WHOLE, 195),
+            (WHOLE, STATE - 1),
             (spoiled, enough),
             (spoiled, any),
         ] {
@@ -1485,7 +1533,7 @@ fn main() {
         if check(&s) == 0 {
             differ += swapped_differ(&mut v, &s, &list, &mut swaps);
         }
-        let used = recorded(&s, &list, &mut vec![0; 20_000]).map_or(135, |(_, used)| used);
+        let used = recorded(&s, &list, &mut vec![0; 20_000]).map_or(225, |(_, used)| used);
         let more = used + 1 + q.below(40) as usize;
         let any = q.below(used as u64 + 40) as usize;
         for bytes in [used, used - 1, more, any] {

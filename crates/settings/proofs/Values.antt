@@ -9,7 +9,7 @@ use lib.Seq.{drop-cons}
 use Rattle.settings.specs.declared.Kind.the-variants.{Loaded, Empty, Engine, RailCar}
 use Rattle.settings.specs.declared.Settings.{Settings}
 use Rattle.settings.specs.Settings.{Accepted}
-use Rattle.settings.specs.Values.{thirteen, withSetting, noSettings, setAll, settingsOf}
+use Rattle.settings.specs.Values.{thirteen, withSetting, setAll, settingsOf}
 use Rattle.settings.proofs.Laws.{accepted-fits}
 
 -- the values of settings give the settings, and so the other way

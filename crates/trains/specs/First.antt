@@ -1,7 +1,7 @@
 -- Which train is first to reach an instant of its own, its due instant or its latest one: what is kept beside the table (document 02, "Eight").
 -- Of equals it is the lowest number. Assumes nothing.
 use Prim.Native.Nat.{ℕ, _+_}
-use mathlib.Core.Bool.{Bool, true, false, cond, not, _&&_, _||_}
+use mathlib.Core.Bool.{Bool, false, cond, not, _&&_, _||_}
 use mathlib.Core.List.{List, [], _∷_}
 use lib.Dec.{ltb, leb, eqb}
 use Rattle.settings.specs.declared.Settings.{Settings}

@@ -1,10 +1,10 @@
 -- `settings::of_values` meets its contract: the values from place i on are still to be set. Assumes nothing.
-use mathlib.Core.Path.{_≡_, refl, sym, _∙_, ap}
-use Prim.Native.Nat.{_+_, _-_, _≤_}
+use mathlib.Core.Path.{_≡_, sym, _∙_, ap}
+use Prim.Native.Nat.{_+_, _-_}
 use native.Mathlib.Omega.{arith}
 use lib.ListN.{length, drop}
 use borrow.Author.Needs.{needs}
-use Rattle.settings.specs.Values.{noSettings, setAll, settingsOf}
+use Rattle.settings.specs.Values.{setAll, settingsOf}
 use Rattle.settings.proofs.Values.{set-next, set-end}
 use Rattle.settings.proofs.of_values.Statement.{statement}
 use Rattle.settings.proofs.of_values.Tie as tie
