@@ -9,20 +9,15 @@
 mod inplace;
 mod kept;
 
-use inplace::{Bench, FullLooks, Looks, Standing, FIRST_LINE, FULL, LAST_LINE, LINE, LONGEST, ROW};
+use inplace::{Bench, FullLooks, Looks, Settings, Standing, FIRST_LINE, FULL, HEAD, LAST_LINE, LINE, LONGEST, ROW};
 use kept::Kept;
 use std::hint::black_box;
 use std::time::Instant;
 
 extern "C" {
     fn weqhaso_run(
-        e: u32,
-        f: u32,
-        p: u32,
-        q: u32,
-        w: u32,
-        x: u32,
-        y: u32,
+        values: *const u32,
+        values_len: usize,
         letters: *const u8,
         letters_len: usize,
         numbers: *const u32,
@@ -35,13 +30,8 @@ extern "C" {
         orders_len: usize,
     ) -> u8;
     fn weqhaso_record(
-        e: u32,
-        f: u32,
-        p: u32,
-        q: u32,
-        w: u32,
-        x: u32,
-        y: u32,
+        values: *const u32,
+        values_len: usize,
         letters: *const u8,
         letters_len: usize,
         numbers: *const u32,
@@ -62,6 +52,8 @@ const ROUNDS: usize = 21;
 const RECORDS_A_ROUND: usize = 20;
 const SMALL_A_ROUND: usize = 1_000;
 const DAMAGED: usize = 20_000;
+// the letters of approaches, kinds 1 to 4
+const APPROACHES: &[u8; 4] = b"ABEF";
 // the sample record of document 01
 const SMALL: &[u8] = include_bytes!("../examples/k.record");
 
@@ -86,25 +78,44 @@ impl Random {
     }
 }
 
+// The kinds of train that approach: kind 1, whose times the others have too (what is measured), or all four by chance, with
+// times of their own.
+#[derive(Clone, Copy)]
+enum Kinds {
+    One,
+    Four,
+}
+
 // A yard in which the number of trains present stays: a train that leaves makes room for the next number's approach at once.
-// A train is coming for E to F ticks and then inside for about as long, so that every third of a tick brings a train's step.
+// A train is coming for the ticks of its kind and then inside for about as long; with one kind every third of a tick brings a
+// train's step.
 struct Yard {
     random: Random,
     bench: Bench<FullLooks>,
-    settings: [u32; 7],
+    settings: Settings,
+    kinds: Kinds,
     next: u32,
     present: u32,
 }
 
 impl Yard {
-    fn new(many: u32, earliest: u32, fall: u32, seed: u64) -> Yard {
-        let (e, f) = (earliest, earliest * 3 / 2);
-        let settings = [e, f, fall, 1920, 2, FULL.div_ceil(fall) + f - e, 3];
+    fn new(many: u32, earliest: u32, fall: u32, kinds: Kinds, seed: u64) -> Yard {
+        let e = earliest;
+        let first = (e, e * 3 / 2);
+        let times = match kinds {
+            Kinds::One => [first; 4],
+            // one that overtakes it, a slow one, and one that is known to the tick
+            Kinds::Four => [first, (e * 3 / 4, e), (2 * e, 3 * e), (e + 1, e + 1)],
+        };
+        let widest = times.iter().map(|(e, f)| f - e).max().unwrap_or(0);
+        let [(e, f), (e2, f2), (e3, f3), (e4, f4)] = times;
+        let settings = [e, f, fall, 1920, 2, FULL.div_ceil(fall) + widest, 3, e2, f2, e3, f3, e4, f4];
         assert_eq!(inplace::check(&settings), 0);
         Yard {
             random: Random(seed),
             bench: Bench::new(&settings),
             settings,
+            kinds,
             next: 0,
             present: many,
         }
@@ -124,17 +135,27 @@ impl Yard {
         }
     }
 
+    fn approach_letter(&mut self) -> u8 {
+        match self.kinds {
+            Kinds::One => b'A',
+            Kinds::Four => APPROACHES[self.random.below(4) as usize],
+        }
+    }
+
     // A train that now occupies (it may, and by chance or because it must) or leaves (by chance).
     fn train_moves(&mut self) -> Option<(u8, u32)> {
-        let [e, f, ..] = self.settings;
+        let (now, times) = (self.bench.now, self.bench.trains.times);
         for n in 1..=96 {
             match self.bench.trains.table[n as usize - 1] {
-                Standing::Coming(a) if self.bench.now >= a + e => {
-                    if self.bench.now == a + f || self.random.below(e as u64) == 0 {
+                Standing::Coming(kind, a) => {
+                    let t = times[kind as usize];
+                    if now >= a + t.earliest && (now == a + t.latest || self.random.below(t.earliest as u64) == 0) {
                         return Some((b'O', n));
                     }
                 }
-                Standing::Inside(_) if self.random.below(e as u64) == 0 => return Some((b'L', n)),
+                Standing::Inside(kind, _) if self.random.below(times[kind as usize].earliest as u64) == 0 => {
+                    return Some((b'L', n));
+                }
                 _ => {}
             }
         }
@@ -145,7 +166,7 @@ impl Yard {
     fn step(&mut self) -> (u8, u32, u8) {
         let few = self.count() < self.present as usize;
         let (letter, number) = if few {
-            (b'A', self.next_away())
+            (self.approach_letter(), self.next_away())
         } else {
             self.train_moves().unwrap_or_else(|| (b'T', self.angle()))
         };
@@ -165,7 +186,7 @@ impl Yard {
 
 // A list of steps in slices, and the places for what is answered.
 struct List {
-    settings: [u32; 7],
+    settings: Settings,
     letters: Vec<u8>,
     numbers: Vec<u32>,
     readings: Vec<f32>,
@@ -174,30 +195,28 @@ struct List {
 }
 
 impl List {
-    fn new(many: u32) -> List {
-        let mut yard = Yard::new(many, 8 * many, 1440, 0x2545_f491_4f6c_dd1d);
-        let steps: Vec<(u8, u32, u8)> = (0..STEPS).map(|_| yard.step()).collect();
+    fn new(many: u32, kinds: Kinds) -> List {
+        List::first_of(Yard::new(many, 8 * many, 1440, kinds, 0x2545_f491_4f6c_dd1d), STEPS)
+    }
+
+    // So many steps of a yard.
+    fn first_of(mut yard: Yard, many: usize) -> List {
+        let steps: Vec<(u8, u32, u8)> = (0..many).map(|_| yard.step()).collect();
         List {
             settings: yard.settings,
             letters: steps.iter().map(|s| s.0).collect(),
             numbers: steps.iter().map(|s| s.1).collect(),
             readings: steps.iter().map(|s| if s.0 == b'T' { s.1 as f32 / 64.0 } else { 0.0 }).collect(),
-            answers: vec![99; STEPS],
-            orders: vec![99; STEPS],
+            answers: vec![99; many],
+            orders: vec![99; many],
         }
     }
 
     fn ours(&mut self) -> u8 {
-        let [e, f, p, q, w, x, y] = self.settings;
         unsafe {
             weqhaso_run(
-                e,
-                f,
-                p,
-                q,
-                w,
-                x,
-                y,
+                self.settings.as_ptr(),
+                self.settings.len(),
                 self.letters.as_ptr(),
                 self.letters.len(),
                 self.numbers.as_ptr(),
@@ -241,16 +260,10 @@ impl List {
     }
 
     fn ours_recorded(&mut self, out: &mut [u8]) -> u64 {
-        let [e, f, p, q, w, x, y] = self.settings;
         unsafe {
             weqhaso_record(
-                e,
-                f,
-                p,
-                q,
-                w,
-                x,
-                y,
+                self.settings.as_ptr(),
+                self.settings.len(),
                 self.letters.as_ptr(),
                 self.letters.len(),
                 self.numbers.as_ptr(),
@@ -279,25 +292,56 @@ impl List {
     // With space for all of its record, just so much, and less.
     fn check_same_recorded(&mut self, out: &mut [u8]) {
         let bytes = self.record(Side::Full, out) as usize / 256;
-        for len in [bytes + 1, bytes, bytes - 1, bytes / 2, 9 * LINE, 9 * LINE - 1, 0] {
-            let [ours, full, kept] = SIDES.map(|side| {
-                let mut out = vec![99; len];
-                self.answers.fill(99);
-                (self.record(side, &mut out), self.answers.clone(), out)
-            });
-            assert!(ours == full && ours == kept, "recordings differ in {len} bytes");
+        for len in [bytes + 1, bytes, bytes - 1, bytes / 2, HEAD + LINE, HEAD + LINE - 1, 0] {
+            self.recorded_alike(len);
         }
     }
 
+    // What all sides answer, recorded into so many bytes.
+    fn recorded_alike(&mut self, len: usize) -> (u64, Vec<u8>, Vec<u8>) {
+        let [ours, full, kept] = SIDES.map(|side| {
+            let mut out = vec![99; len];
+            self.answers.fill(99);
+            (self.record(side, &mut out), self.answers.clone(), out)
+        });
+        assert!(ours == full && ours == kept, "recordings differ in {len} bytes");
+        ours
+    }
+
     fn check_same(&mut self) {
-        let answered = SIDES.map(|side| {
+        let (refusal, answers) = self.run_alike();
+        assert!(refusal == 0 && answers.iter().all(|a| *a == 0), "a run or a step is refused");
+    }
+
+    // What all sides answer, with the same commands.
+    fn run_alike(&mut self) -> (u8, Vec<u8>) {
+        let [ours, full, kept] = SIDES.map(|side| {
             self.answers.fill(99);
             self.orders.fill(99);
             (self.run(side), self.answers.clone(), self.orders.clone())
         });
-        let [ours, full, kept] = &answered;
-        assert!(ours.0 == 0 && ours.1.iter().all(|a| *a == 0), "a run or a step is refused");
         assert!(ours == full && ours == kept, "answers or commands differ");
+        (ours.0, ours.1)
+    }
+
+    // A step exchanged or left out, another setting, too short a slice, or any letter.
+    fn damage(&mut self, r: &mut Random) {
+        let at = r.below(self.letters.len() as u64) as usize;
+        let i = r.below(13) as usize;
+        match r.below(10) {
+            0 | 1 => self.letters[at] = b"ABEFOLT"[r.below(7) as usize],
+            2 => self.numbers[at] = r.below(99) as u32,
+            3 => self.readings[at] = r.below(2 * FULL as u64 + 9) as f32 / 128.0,
+            4 => self.settings[i] = [0, 1, FULL, FULL + 1, 60_000, 60_001][r.below(6) as usize],
+            5 => self.settings[i] = (self.settings[i] + r.below(5) as u32).saturating_sub(2),
+            6 if r.below(8) == 0 => self.answers.truncate(at),
+            7 if r.below(8) == 0 => self.letters[at] = b'A' + r.below(26) as u8,
+            _ => {
+                self.letters.remove(at);
+                self.numbers.remove(at);
+                self.readings.remove(at);
+            }
+        }
     }
 
     fn says(&self) -> String {
@@ -319,8 +363,8 @@ fn put_line(text: &mut Vec<u8>, first: u32, letter: u8, last: u32) {
 }
 
 // A record that fills what the report takes, up to a line: two trains present, with short stretches.
-fn record() -> Vec<u8> {
-    let mut yard = Yard::new(2, 4, 2880, 0x9e37_79b9_7f4a_7c15);
+fn record(kinds: Kinds) -> Vec<u8> {
+    let mut yard = Yard::new(2, 4, 2880, kinds, 0x9e37_79b9_7f4a_7c15);
     let mut text = FIRST_LINE.to_vec();
     for (i, value) in yard.settings.iter().enumerate() {
         put_line(&mut text, *value, b'S', i as u32 + 1);
@@ -364,6 +408,27 @@ fn same_report(text: &[u8], len: usize) -> bool {
     ours == full && ours == kept
 }
 
+fn damage(text: &mut Vec<u8>, r: &mut Random) {
+    let at = r.below(text.len() as u64) as usize;
+    let line = at / LINE * LINE;
+    match r.below(7) {
+        0 => text[at] = b"0123456789 ABEFOLTDUS\n"[r.below(22) as usize],
+        1 => text[at] = r.below(256) as u8,
+        2 => text.truncate(at),
+        3 => drop(text.drain(line..line + LINE)),
+        // an approach, from this line on, of another kind
+        4 => {
+            let mut letters = text.iter_mut().skip(line.max(HEAD) + 9).step_by(LINE);
+            if let Some(letter) = letters.find(|l| APPROACHES.contains(l)) {
+                *letter = APPROACHES[r.below(4) as usize];
+            }
+        }
+        // any letter
+        5 => text[line + 9] = b'A' + r.below(26) as u8,
+        _ => text.push(10),
+    }
+}
+
 // The whole record, buffers that are just long enough and one byte short, damaged records, and too long a text.
 fn check_same_reports(text: &[u8]) {
     let mut out = vec![99; LONGEST];
@@ -374,23 +439,59 @@ fn check_same_reports(text: &[u8]) {
     let mut r = Random(0x1234_5678_9abc_def1);
     for _ in 0..DAMAGED {
         // most damage early, where it is cheap to reach
-        let lines = 9 + r.below(60) as usize;
+        let lines = 15 + r.below(60) as usize;
         let mut damaged = text[..(LINE * lines).min(text.len() - LINE)].to_vec();
         damaged.extend_from_slice(LAST_LINE);
-        let at = r.below(damaged.len() as u64) as usize;
-        match r.below(5) {
-            0 => damaged[at] = b"0123456789 AOLTDUS\n"[r.below(19) as usize],
-            1 => damaged[at] = r.below(256) as u8,
-            2 => damaged.truncate(at),
-            3 => drop(damaged.drain(at / LINE * LINE..at / LINE * LINE + LINE)),
-            _ => damaged.push(10),
-        }
+        damage(&mut damaged, &mut r);
         let len = [19, 18, LONGEST][r.below(3) as usize];
         assert!(same_report(&damaged, len), "{}", String::from_utf8_lossy(&damaged));
     }
     let mut long = text.to_vec();
     long.resize(LONGEST + 1, 10);
     assert!(same_report(&long, 19), "reports of too long a text differ");
+}
+
+// Lists of trains of four kinds, plain and damaged, run and recorded, and the records read, plain and damaged: how often each
+// number was answered.
+fn check_same_lists() -> [usize; 17] {
+    let mut r = Random(0x0fed_cba9_8765_4321);
+    let mut met = [0; 17];
+    for _ in 0..DAMAGED {
+        let (present, earliest) = (1 + r.below(6) as u32, 6 + r.below(10) as u32);
+        let yard = Yard::new(present, earliest, 1920, Kinds::Four, 1 + r.below(u64::MAX));
+        let mut list = List::first_of(yard, 20 + r.below(200) as usize);
+        for _ in 0..r.below(4) {
+            list.damage(&mut r);
+        }
+        let (refusal, answers) = list.run_alike();
+        met[refusal as usize] += 1;
+        if refusal == 0 {
+            answers[..list.letters.len()].iter().for_each(|a| met[*a as usize] += 1);
+        }
+        let len = HEAD + r.below(2 * (LINE * list.letters.len()) as u64) as usize;
+        let (recorded, _, out) = list.recorded_alike(len);
+        let mut text = out[..recorded as usize / 256].to_vec();
+        assert!(same_report(&text, LONGEST), "{}", String::from_utf8_lossy(&text));
+        if !text.is_empty() {
+            damage(&mut text, &mut r);
+            assert!(same_report(&text, LONGEST), "{}", String::from_utf8_lossy(&text));
+        }
+        met[read(Side::Ours, &text) as usize % 256] += 1;
+    }
+    met
+}
+
+// The inputs again with trains of four kinds, and lists in which steps are refused.
+fn check_same_kinds() {
+    for many in [1, 8, 96] {
+        let mut list = List::new(many, Kinds::Four);
+        list.check_same();
+        list.check_same_recorded(&mut vec![0; LINE * (15 + 2 * STEPS)]);
+    }
+    check_same_reports(&record(Kinds::Four));
+    let met = check_same_lists();
+    // only the end of the clock is too far
+    assert!((0..17).all(|number| number == 10 || met[number] > 0), "a number is never answered: {met:?}");
 }
 
 // A record, the place for its report, and how many times it goes through in a round.
@@ -435,11 +536,14 @@ enum Input {
 impl Input {
     fn named(name: &str) -> Input {
         match name {
-            "write" => Input::Write(List::new(8), vec![0; LINE * (9 + 2 * STEPS)]),
-            "read" => Input::Read(Text::new(record(), RECORDS_A_ROUND)),
-            "report" => Input::Report(Text::new(record(), RECORDS_A_ROUND)),
+            "write" => Input::Write(List::new(8, Kinds::One), vec![0; LINE * (15 + 2 * STEPS)]),
+            "read" => Input::Read(Text::new(record(Kinds::One), RECORDS_A_ROUND)),
+            "report" => Input::Report(Text::new(record(Kinds::One), RECORDS_A_ROUND)),
             "small" => Input::Report(Text::new(SMALL.to_vec(), SMALL_A_ROUND)),
-            many => Input::Steps(List::new(many.parse().expect("1, 8, 96, write, read, report or small"))),
+            many => {
+                let many = many.parse().expect("1, 8, 96, write, read, report or small");
+                Input::Steps(List::new(many, Kinds::One))
+            }
         }
     }
 
@@ -512,7 +616,9 @@ fn measure() {
     for (_, input) in &mut inputs {
         input.check_same();
     }
-    println!("All three sides give the same answers on these inputs, and on {DAMAGED} damaged records of each kind.");
+    check_same_kinds();
+    println!("All three sides give the same answers on these inputs, on the like with four kinds of train, on {DAMAGED} damaged");
+    println!("copies of each record, and on {DAMAGED} lists of four kinds with refused steps, run, recorded and read.");
     println!("Lists have {STEPS} accepted steps; the number of trains present stays, but between a leave and the approach after it.");
     for (what, input) in &mut inputs {
         println!("  {what}: {}", input.says());

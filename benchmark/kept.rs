@@ -2,7 +2,7 @@
 // due present train, and the coming train that is first at its latest. The table is read through only when that very train
 // leaves or goes inside.
 
-use crate::inplace::{Looks, Standing, Trains};
+use crate::inplace::{Kind, Looks, Standing, Trains};
 
 // An instant and the train that is first to reach it, of equals the lowest number: the least of such pairs.
 type First = Option<(u32, u32)>;
@@ -26,10 +26,10 @@ fn is_first(first: First, n: u32) -> bool {
 }
 
 // The first of all trains that have an instant of their own.
-fn first_of(trains: &Trains, own: impl Fn(Standing) -> Option<u32>) -> First {
+fn first_of(trains: &Trains, own: impl Fn(&Standing) -> Option<u32>) -> First {
     let mut first = None;
     for (n, standing) in (1..).zip(&trains.table) {
-        if let Some(instant) = own(*standing) {
+        if let Some(instant) = own(standing) {
             if first.is_none_or(|f| (instant, n) < f) {
                 first = Some((instant, n));
             }
@@ -47,15 +47,15 @@ impl Looks for Kept {
         reached(self.latest, instant)
     }
 
-    fn approached(&mut self, trains: &Trains, n: u32, now: u32) {
-        self.soonest = joined(self.soonest, (now + trains.earliest, n));
-        self.latest = joined(self.latest, (now + trains.latest, n));
+    fn approached(&mut self, trains: &Trains, kind: Kind, n: u32, now: u32) {
+        self.soonest = joined(self.soonest, (trains.due(kind, now), n));
+        self.latest = joined(self.latest, (trains.latest(kind, now), n));
     }
 
     fn occupied(&mut self, trains: &Trains, n: u32) {
         if is_first(self.latest, n) {
-            self.latest = first_of(trains, |standing| match standing {
-                Standing::Coming(a) => Some(a + trains.latest),
+            self.latest = first_of(trains, |standing| match *standing {
+                Standing::Coming(kind, a) => Some(trains.latest(kind, a)),
                 _ => None,
             });
         }
@@ -63,8 +63,8 @@ impl Looks for Kept {
 
     fn left(&mut self, trains: &Trains, n: u32) {
         if is_first(self.soonest, n) {
-            self.soonest = first_of(trains, |standing| match standing {
-                Standing::Coming(a) | Standing::Inside(a) => Some(a + trains.earliest),
+            self.soonest = first_of(trains, |standing| match *standing {
+                Standing::Coming(kind, a) | Standing::Inside(kind, a) => Some(trains.due(kind, a)),
                 Standing::Away => None,
             });
         }
