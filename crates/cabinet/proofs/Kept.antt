@@ -14,7 +14,7 @@ use Rattle.trains.specs.declared.First.{First}
 use Rattle.trains.specs.declared.Question.the-variants.{Due}
 use Rattle.trains.specs.declared.Table.{Table}
 use Rattle.trains.specs.Table.{awayEntry, entryOf, standingOf, put}
-use Rattle.trains.specs.First.{ownOf, hasOwn, earlierOf, firstIn, restOf}
+use Rattle.trains.specs.First.{ownOf, hasOwn, earlierOf, trainOf, firstIn, restOf}
 use Rattle.trains.proofs.Laws.{fresh-formed, put-formed}
 use Rattle.trains.proofs.Firsts.{own-none, away-none, first-joined, first-rest, first-fresh, due-first}
 use Rattle.cabinet.specs.declared.Answer.the-variants.{Refused}
@@ -35,7 +35,7 @@ kept-fresh s = record { ticks = refl; formed = fresh-formed; soonest = sym (firs
 -- the look at the soonest of the table
 pub order-full : (s : Settings) (t : Table) (w : Control) → order s (ticksOf s) (firstIn s Due t) w ≡ fullOrder s t w
 unfolding order
-order-full s t w = ap (orderFor (w .command)) (due-first s t (horizon (w .command) s (ticksOf s) (w .now)))
+order-full s t w = ap (λ (due : Bool). orderFor (w .command) due (trainOf (firstIn s Due t))) (due-first s t (horizon (w .command) s (ticksOf s) (w .now)))
 
 -- an entry put, with this train soonest
 placed-full : (c : Cabinet) → Kept c → (n : ℕ) (entry : Entry) (soonest : First) → soonest ≡ firstIn (c .settings) Due (put (c .table) n entry) →

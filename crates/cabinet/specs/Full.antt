@@ -1,5 +1,5 @@
 -- The cabinet's steps by the full look, as document 01 has them ("Cabinet"): at every look each train of the table is asked, and the train
--- that is kept beside the table decides nothing; it is written anew from the table (document 02, "Eight"). Assumes nothing.
+-- that is kept beside the table decides nothing; it is written anew from the table (document 02, "Four" and "Eight"). Assumes nothing.
 use Prim.Native.Nat.{ℕ}
 use mathlib.Core.Path.{_≡_}
 use lib.Dec.{leb}
@@ -11,7 +11,7 @@ use Rattle.trains.specs.declared.Entry.{Entry}
 use Rattle.trains.specs.declared.Question.the-variants.{Due}
 use Rattle.trains.specs.declared.Table.{Table}
 use Rattle.trains.specs.Table.{awayEntry, standingOf, put, dueBy, WellFormed}
-use Rattle.trains.specs.First.{firstIn}
+use Rattle.trains.specs.First.{trainOf, firstIn}
 use Rattle.cabinet.specs.declared.Order.{Order}
 use Rattle.cabinet.specs.declared.Answer.the-variants.{Taken}
 use Rattle.cabinet.specs.declared.Control.{Control}
@@ -28,9 +28,9 @@ pub record Kept (c : Cabinet) : Type 0 where
 
 -- ---- the full look
 
--- what it orders: every present train is asked whether it is due
+-- what it orders: every present train is asked whether it is due, and a lower names the one that is due soonest, of equals the lowest number
 abbrev pub fullOrder : Settings → Table → Control → Order
-fullOrder s t w = orderFor (w .command) (dueBy t s (horizon (w .command) s (ticksOf s) (w .now)))
+fullOrder s t w = orderFor (w .command) (dueBy t s (horizon (w .command) s (ticksOf s) (w .now))) (trainOf (firstIn s Due t))
 
 -- the order given, and the command as it then is
 abbrev pub fullLookedAt : Settings → Table → Control → Controlled

@@ -22,7 +22,7 @@ use Rattle.trains.specs.declared.Question.{Question}
 use Rattle.trains.specs.declared.Question.the-variants.{Due, Latest}
 use Rattle.trains.specs.Trains.{isTrain, isPresent, isDue, isLate}
 use Rattle.trains.specs.Table.{awayEntry, freshTable, entryOf, put, someOf, someEntry, dueBy, someLate, WellFormed}
-use Rattle.trains.specs.First.{before, ownOf, hasOwn, instantOf, earlierOf, reachedBy, isNamed, withOther, firstFrom, firstIn, firstBut, restOf}
+use Rattle.trains.specs.First.{before, ownOf, hasOwn, instantOf, earlierOf, reachedBy, isNamed, IsFirst, withOther, firstFrom, firstIn, firstBut, restOf}
 use Rattle.trains.proofs.Laws.{train-says, says-train, put-formed, put-same, put-other}
 use Rattle.trains.proofs.Order.{nobody-earlier, earlier-swap, earlier-least, earlier-none, earlier-either, reached-earlier}
 
@@ -234,22 +234,38 @@ own-from own k (x ∷ es) n t e = go (λ z. own-from own (k + 1) es n t z) (earl
         (suc (r .0), omega (arith, r .1), rw y (r .2))
 
 module _ (s : Settings) (q : Question) (t : Table) (f : WellFormed t) where
-  pub first-own : (n u : ℕ) → firstIn s q t ≡ Train n u → (isTrain n ≡ true) × (ownOf s q n (entryOf t n) ≡ Train n u)
+  first-own : (n u : ℕ) → firstIn s q t ≡ Train n u → ownOf s q n (entryOf t n) ≡ Train n u
   unfolding firstIn entryOf
   first-own n u e =
       let r = own-from (ownOf s q) 0 (t .places) n u e in
       let m = own-named s q (0 + r .0 + 1) (getD (t .places) (r .0) awayEntry) n u (r .2) in
       let k = says-train n (omega (arith, m)) (omega (arith, m, r .1, f)) in
       let z : r .0 ≡ n - 1 = omega (arith, m) in
-      (k, rw (k, ← z) (ap (λ (i : ℕ). ownOf s q i (getD (t .places) (r .0) awayEntry)) m ∙ r .2))
+      rw (k, ← z) (ap (λ (i : ℕ). ownOf s q i (getD (t .places) (r .0) awayEntry)) m ∙ r .2)
 
-  -- it comes before each that has an instant
-  pub first-least : (n u m v : ℕ) → firstIn s q t ≡ Train n u → isTrain m ≡ true → ownOf s q m (entryOf t m) ≡ Train m v → before n u m v ≡ true
-  first-least n u m v e k o = earlier-least (ownOf s q m (entryOf t m)) (firstIn s q (put t m awayEntry)) n u m v (sym (first-here s q t m f k) ∙ e) o
+  -- what a number adds that is no train's: nothing
+  own-or-none : (m : ℕ) → (isTrain m ≡ true) ⊎ (ownOf s q m (entryOf t m) ≡ Nobody)
+  unfolding entryOf
+  own-or-none m = go (isTrain m)
+    where
+      go : (b : Bool) → (b ≡ true) ⊎ (ownOf s q m (cond b (getD (t .places) (m - 1) awayEntry) awayEntry) ≡ Nobody)
+      go true = inl refl
+      go false = inr (own-away s q m)
 
-  -- and nobody is first only where no train has one
-  pub first-none : firstIn s q t ≡ Nobody → (m : ℕ) → isTrain m ≡ true → ownOf s q m (entryOf t m) ≡ Nobody
-  first-none e m k = earlier-none (ownOf s q m (entryOf t m)) (firstIn s q (put t m awayEntry)) (sym (first-here s q t m f k) ∙ e)
+  -- so for each number the table's first is the one that is first of its own and the rest
+  first-each : (m : ℕ) → (r : First) × (firstIn s q t ≡ earlierOf (ownOf s q m (entryOf t m)) r)
+  first-each m = go (own-or-none m)
+    where
+      go : (isTrain m ≡ true) ⊎ (ownOf s q m (entryOf t m) ≡ Nobody) → (r : First) × (firstIn s q t ≡ earlierOf (ownOf s q m (entryOf t m)) r)
+      go (inl k) = (firstIn s q (put t m awayEntry), first-here s q t m f k)
+      go (inr o) = (firstIn s q t, rw o (sym (nobody-earlier (firstIn s q t))))
+
+  pub first-is : IsFirst (λ n. ownOf s q n (entryOf t n)) (firstIn s q t)
+  first-is = record {
+    one = first-own;
+    least = λ n u m v e o. let r = first-each m in earlier-least (ownOf s q m (entryOf t m)) (r .0) n u m v (sym (r .1) ∙ e) o;
+    none = λ e m. let r = first-each m in earlier-none (ownOf s q m (entryOf t m)) (r .0) (sym (r .1) ∙ e);
+  }
 
 -- ---- the beginning
 pub first-fresh : (s : Settings) (q : Question) → firstIn s q freshTable ≡ Nobody

@@ -1,5 +1,5 @@
 -- `earlierOf` chooses by a total order: so an entry's own may be taken out of a list's first, or put to it, at any place. Assumes nothing.
-use mathlib.Core.Path.{_≡_, refl}
+use mathlib.Core.Path.{_≡_, refl, sym, _∙_}
 use mathlib.Core.Bool.{Bool, true, false, cond, _&&_, _||_, true≢false, false≢true}
 use mathlib.Core.Logic.{_⊎_, inl, inr}
 use Prim.Native.Nat.{ℕ, _≤_, _<_}
@@ -8,7 +8,7 @@ use lib.Dec.{ltb, leb, eqb}
 use borrow.Author.Tests.{ltb-true, ltb-false, leb-true, leb-false, eqb-true, eqb-false}
 use Rattle.trains.specs.declared.First.{First}
 use Rattle.trains.specs.declared.First.the-variants.{Nobody, Train}
-use Rattle.trains.specs.First.{before, earlierOf, reachedBy}
+use Rattle.trains.specs.First.{before, earlierOf, reachedBy, IsFirst}
 
 -- ---- what `before` says, both ways
 module _ (n t m u : ℕ) where
@@ -143,6 +143,29 @@ earlier-either (Train n t) (Train m u) = by (before n t m u)
     by : (b : Bool) → (cond b (Train n t) (Train m u) ≡ Train n t) ⊎ (cond b (Train n t) (Train m u) ≡ Train m u)
     by true = inl refl
     by false = inr refl
+
+-- one that was chosen already changes nothing
+pub earlier-again : (f g : First) → earlierOf f (earlierOf f g) ≡ earlierOf f g
+unfolding earlierOf
+earlier-again Nobody g = refl
+earlier-again (Train n t) Nobody = same (before n t n t)
+  where
+    same : (b : Bool) → cond b (Train n t) (Train n t) ≡ Train n t
+    same true = refl
+    same false = refl
+earlier-again (Train n t) (Train m u) = go (before n t m u) refl
+  where
+    go : (b : Bool) → before n t m u ≡ b → earlierOf (Train n t) (cond b (Train n t) (Train m u)) ≡ cond b (Train n t) (Train m u)
+    go true e = rw (before-self n t)
+    go false e = rw e
+
+-- ---- only one is first
+pub only-first : (own : ℕ → First) (f g : First) → IsFirst own f → IsFirst own g → f ≡ g
+only-first own Nobody Nobody p q = refl
+only-first own Nobody (Train m u) p q = sym (p .none refl m) ∙ q .one m u refl
+only-first own (Train n t) Nobody p q = sym (p .one n t refl) ∙ q .none refl n
+only-first own (Train n t) (Train m u) p q =
+    antisym n t m u (p .least n t m u refl (q .one m u refl)) (q .least m u n t refl (p .one n t refl))
 
 -- ---- the instant that is first is reached exactly if one of the two is
 pub reached-earlier : (l : ℕ) (f g : First) → reachedBy l (earlierOf f g) ≡ (reachedBy l f || reachedBy l g)

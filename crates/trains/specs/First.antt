@@ -1,7 +1,9 @@
--- Which train is first to reach an instant of its own, its due instant or its latest one: what is kept beside the table (document 02, "Eight").
+-- Which train is first to reach an instant of its own, its due instant or its latest one: what is kept beside the table (document 02, "Eight"), and
+-- by the due instants the train that a lower names (document 02, "Four").
 -- Of equals it is the lowest number. Assumes nothing.
 use Prim.Native.Nat.{ℕ, _+_}
-use mathlib.Core.Bool.{Bool, false, cond, not, _&&_, _||_}
+use mathlib.Core.Path.{_≡_}
+use mathlib.Core.Bool.{Bool, true, false, cond, not, _&&_, _||_}
 use mathlib.Core.List.{List, [], _∷_}
 use lib.Dec.{ltb, leb, eqb}
 use Rattle.settings.specs.declared.Settings.{Settings}
@@ -45,10 +47,22 @@ unfoldable pub reachedBy : ℕ → First → Bool
 reachedBy t Nobody = false
 reachedBy t (Train n u) = leb u t
 
+-- its number; 0 for nobody
+abbrev pub trainOf : First → ℕ
+trainOf Nobody = 0
+trainOf (Train n t) = n
+
 -- it is train n
 unfoldable pub isNamed : ℕ → First → Bool
 isNamed n Nobody = false
 isNamed n (Train m t) = eqb m n
+
+-- what it is to be first, where train n has the instant that `own n` says, or none: it is one of these, it comes before each of them, and it is nobody
+-- only where no train has one
+pub record IsFirst (own : ℕ → First) (f : First) : Type 0 where
+  pub one : (n t : ℕ) → f ≡ Train n t → own n ≡ Train n t
+  pub least : (n t m u : ℕ) → f ≡ Train n t → own m ≡ Train m u → before n t m u ≡ true
+  pub none : f ≡ Nobody → (m : ℕ) → own m ≡ Nobody
 
 -- who is first of the trains of a list of entries, whose numbers go on from k
 abbrev pub firstFrom : (ℕ → Entry → First) → ℕ → List Entry → First

@@ -13,12 +13,22 @@ reached-requires c κs = search needs
 enum-told : tie.Need-enum-told
 enum-told c = search needs
 
+train-of-requires : tie.Need-train-of-requires
+train-of-requires c κs = search needs
+
 enum-told-2 : tie.Need-enum-told-2
 enum-told-2 c = search needs
 
 returns : tie.Need-returns
 unfolding order
-returns c = rw (← (c .before .before .before .before .horizon .ensures), ← (c .before .before .before .reached .ensures), c .before .enum-told .given .1, c .if1 .taken)
+returns c =
+    rw (
+      ← (c .before .before .before .before .before .horizon .ensures),
+      ← (c .before .before .before .before .reached .ensures),
+      c .before .before .enum-told .given .1,
+      c .before .if1 .taken,
+      ← (c .train-of .ensures),
+    )
 
 returns-2 : tie.Need-returns-2
 unfolding order
@@ -39,6 +49,7 @@ order-with-spec =
     horizon-requires
     reached-requires
     enum-told
+    train-of-requires
     enum-told-2
     returns
     returns-2
