@@ -24,6 +24,9 @@ use Rattle.trains.specs.Trains as standing
 use Rattle.trains.specs.Trains.{isTrain}
 use Rattle.trains.specs.Table as table
 use Rattle.trains.specs.Table.{awayEntry, comingEntry, insideEntry, entryOf, standingOf, put, someEntry}
+use Rattle.trains.specs.declared.Question.the-variants.{Due}
+use Rattle.trains.specs.First.{hasOwn, instantOf, ownOf, trainOf, firstIn}
+use Rattle.trains.proofs.Firsts.{first-is}
 use Rattle.trains.proofs.Laws.{fresh-formed, fresh-away, put-formed, put-same, put-other, some-train, train-some}
 use Rattle.cabinet.specs.declared.Order.{Order}
 use Rattle.cabinet.specs.declared.Order.the-variants.{Nothing}
@@ -40,13 +43,14 @@ use Rattle.bench.specs.Full.{Kept, fullLooked, fullPut, fullEntered, fullSensed
 use Rattle.bench.proofs.Kept.{kept-fresh}
 use Rattle.runs.specs.declared.Step.{Step}
 use Rattle.runs.specs.declared.Step.the-variants.{Approach, Occupy, Leave, Clock}
-use Rattle.runs.specs.History.{History, instant, arm, armBefore, Place, away, coming, inside, place, isAway, isComing, isInside, since, kindOf, dueAt, latestAt, someTrain, someDue, someLate, look, command, stepRefusal, keep, after, given, orderBetween, orderAt, history, stepRefusals, orders}
+use Rattle.runs.specs.History.{History, instant, arm, armBefore, Place, away, coming, inside, place, isAway, isComing, isInside, since, kindOf, dueAt, latestAt, someTrain, someDue, dueOf, soonest, someLate, look, command, stepRefusal, keep, after, given, orderBetween, orderAt, history, stepRefusals, orders}
 use Rattle.runs.specs.Steps.{stateAfter, answersTo, benchStepped, benchAfter, benchAnswers}
 use Rattle.runs.specs.Kept.{fullStepped}
 use Rattle.runs.specs.Match.{Valid, shown, Core, Match}
 use Rattle.runs.specs.Swap.{SameTrain}
 use Rattle.runs.specs.Demand.{answerOf, entryFrom, Agrees}
 use Rattle.runs.proofs.Rules.{some-true, some-present, approach-ok, occupy-ok, leave-ok}
+use Rattle.runs.proofs.Soonest.{dueBy, due-by, soonest-only}
 use Rattle.runs.proofs.Invariants.{valid-after, valid, clock-range}
 use Rattle.runs.proofs.Kept.{step-full, step-kept}
 
@@ -102,24 +106,38 @@ module _ {told : Bool} {s : Settings} {h : History} {u : Settings} {i : ℕ} {t 
       each true inside a k = refl
       each false inside a k = refl
 
+  -- who is due soonest in the table is who is by the history
+  pub table-soonest : firstIn s Due t ≡ soonest s h
+  unfolding ownOf hasOwn instantOf
+  table-soonest = soonest-only s h (λ n. ownOf s Due n (entryOf t n)) same (firstIn s Due t) (first-is s Due t (m .formed))
+    where
+      each : (told : Bool) (n : ℕ) (p : Place) (a : ℕ) (k : Kind) → ownOf s Due n (shown told p a k) ≡ dueBy s n p a k
+      each told n away a k = refl
+      each told n coming a k = refl
+      each true n inside a k = refl
+      each false n inside a k = refl
+
+      same : (n : ℕ) → ownOf s Due n (entryOf t n) ≡ dueOf s h n
+      same n = by-entry (ownOf s Due n) (dueBy s n) (each told n) n ∙ sym (due-by s h n)
+
   -- the full look: the order is the rules', and so is the command after it
   abbrev Looked : Order → Command → Type 0
-  Looked o k = (o ≡ given k (look s h k)) × (commandAfter o k ≡ look s h k)
+  Looked o k = (o ≡ given (trainOf (soonest s h)) k (look s h k)) × (commandAfter o k ≡ look s h k)
 
   look-is : (k : Command) → Looked (fullOrder u t (record { now = i; command = k })) k
   look-is k = rw (m .settings, m .now) (go k)
     where
-      up : (due : Bool) → (orderFor Up due ≡ given Up (cond due Down Up)) × (commandAfter (orderFor Up due) Up ≡ cond due Down Up)
-      up true = (refl, refl)
-      up false = (refl, refl)
+      up : (n : ℕ) (due : Bool) → (orderFor Up due n ≡ given n Up (cond due Down Up)) × (commandAfter (orderFor Up due n) Up ≡ cond due Down Up)
+      up n true = (refl, refl)
+      up n false = (refl, refl)
 
-      down : (due : Bool) → (orderFor Down due ≡ given Down (cond due Down Up)) × (commandAfter (orderFor Down due) Down ≡ cond due Down Up)
-      down true = (refl, refl)
-      down false = (refl, refl)
+      down : (n : ℕ) (due : Bool) → (orderFor Down due n ≡ given n Down (cond due Down Up)) × (commandAfter (orderFor Down due n) Down ≡ cond due Down Up)
+      down n true = (refl, refl)
+      down n false = (refl, refl)
 
-      go : (k : Command) → Looked (orderFor k (table.dueBy t s (horizon k s (ticksOf s) (instant h)))) k
-      go Up = rw (table-due) (up (someDue s h (horizon Up s (ticksOf s) (instant h))))
-      go Down = rw (table-due) (down (someDue s h (horizon Down s (ticksOf s) (instant h))))
+      go : (k : Command) → Looked (orderFor k (table.dueBy t s (horizon k s (ticksOf s) (instant h))) (trainOf (firstIn s Due t))) k
+      go Up = rw (table-due, table-soonest) (up (trainOf (soonest s h)) (someDue s h (horizon Up s (ticksOf s) (instant h))))
+      go Down = rw (table-due) (down (trainOf (soonest s h)) (someDue s h (horizon Down s (ticksOf s) (instant h))))
 
   -- ---- what a step makes of the table and the clock
 
@@ -185,7 +203,9 @@ heeds : {told : Bool} {s : Settings} {h : History} {u : Settings} (x : Step) (t 
 heeds {s = s} {h = h} x t w core same looks =
     let l = look-is core (w .command) in
     record {
-      answer = ap Taken (l .0 ∙ ap (λ (k : Command). given k (look s (x ∷ h) k)) same ∙ ap (given (command s h)) (sym looks));
+      answer =
+          ap Taken
+          (l .0 ∙ ap (λ (k : Command). given (trainOf (soonest s (x ∷ h))) k (look s (x ∷ h) k)) same ∙ ap (given (trainOf (soonest s (x ∷ h))) (command s h)) (sym looks));
       core = core;
       command = l .1 ∙ ap (look s (x ∷ h)) same ∙ sym looks;
     }
@@ -219,9 +239,9 @@ record Takes (s : Settings) (h : History) (x : Step) (m : Moved) : Type 0 where
   pub angle : armOf (m .bench) ≡ arm (x ∷ h)
   pub previous : m .bench .head .motion .previous ≡ armBefore (x ∷ h)
 
-pub unmoved : (k : Command) → given k k ≡ Nothing
-unmoved Up = refl
-unmoved Down = refl
+pub unmoved : (n : ℕ) (k : Command) → given n k k ≡ Nothing
+unmoved n Up = refl
+unmoved n Down = refl
 
 module _ (s : Settings) (h : History) (b : Bench) (m : Match s h b) where
   -- an accepted step that the cabinet hears, with the arm
@@ -299,7 +319,7 @@ module _ (s : Settings) (h : History) (b : Bench) (m : Match s h b) where
       (λ ok. with-arm (Approach kind n) (put (b .table) n (comingEntry kind (nowOf b))) (b .head .motion) (approach-heeds (m .core) (m .command) kind n ok) (m .angle) (m .previous)) k
   full-stands v (Occupy n) k =
       by-number (Occupy n) (occupyRefusal (b .head .settings) (nowOf b) n (entryAt b n)) (fullEntered b n) (occupy-number n)
-      (λ ok. record { answer = ap Taken (sym (unmoved (command s h))); core = occupy-core (m .core) n ok; command = m .command; angle = m .angle; previous = m .previous }) k
+      (λ ok. record { answer = ap Taken (sym (unmoved _ (command s h))); core = occupy-core (m .core) n ok; command = m .command; angle = m .angle; previous = m .previous }) k
   full-stands v (Leave n) k =
       by-number (Leave n) (benchLeaveRefusal n (standsAt b n)) (fullPut b n awayEntry) (leave-number n)
       (λ ok. with-arm (Leave n) (put (b .table) n awayEntry) (b .head .motion) (leave-heeds (m .core) (m .command) n ok) (m .angle) (m .previous)) k
@@ -348,7 +368,7 @@ module _ (s : Settings) where
     where
       go : (k : ℕ) → orderOf (answerOf k (orderBetween s h (keep k x h))) ≡ orderBetween s h (keep k x h)
       go zero = refl
-      go (suc k) = sym (unmoved (command s h))
+      go (suc k) = sym (unmoved _ (command s h))
 
   pub run-orders : (xs : List Step) (h : History) (b : Bench) → Valid s h → Match s h b → map orderOf (benchAnswers b xs) ≡ orders s h xs
   unfolding orders answersTo

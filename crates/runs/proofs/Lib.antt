@@ -1,6 +1,7 @@
 pub mod Course
 pub mod Road
 pub mod Rules
+pub mod Soonest
 pub mod Invariants
 pub mod Single
 pub mod Kept
@@ -12,6 +13,7 @@ pub mod Rising
 pub mod Counts
 pub mod Claims
 pub mod Looks
+pub mod Naming
 pub mod Letters
 pub mod Slices
 pub mod Through

@@ -10,6 +10,7 @@ use Rattle.settings.specs.Settings.{timesOf}
 use Rattle.settings.specs.declared.Kind.{Kind}
 use Rattle.arm.specs.declared.Command.{Command}
 use Rattle.arm.specs.declared.Command.the-variants.{Up, Down}
+use Rattle.trains.specs.First.{trainOf}
 use Rattle.bench.specs.declared.Bench.{Bench}
 use Rattle.bench.specs.declared.Event.{Event}
 use Rattle.bench.specs.declared.Event.the-variants as events
@@ -25,6 +26,7 @@ use Rattle.runs.specs.Match.{Valid, Match}
 use Rattle.runs.specs.Letters.{eventStep}
 use Rattle.runs.specs.Swap.{SameTrain, SameMoment, SameBench}
 use Rattle.runs.proofs.Rules.{some-true, some-present}
+use Rattle.runs.proofs.Soonest.{soonest-same}
 use Rattle.runs.proofs.Invariants.{valid-after}
 use Rattle.runs.proofs.Agreement.{step-stands, agrees}
 use Rattle.runs.proofs.Events.{event-instant, event-arm, event-alike, event-number}
@@ -131,7 +133,10 @@ module _ (s : Settings) where
         go (suc k) = same
 
     pub order-same : (x : Step) → orderAt s h x ≡ orderAt s g x
-    order-same x = ap₂ given (same .command) (after-same x .command)
+    order-same x =
+        let z = after-same x in
+        let n = soonest-same s (after s h x) (after s g x) (z .trains) in
+        λ i. given (trainOf (n i)) (same .command i) (z .command i)
 
   -- ---- lists
 

@@ -158,6 +158,45 @@ module _ (s : Settings) where
   looked {h} v (accepted (Leave m) ok) = by-look (Leave m ∷ h) (command s h) .0
   looked {h} v (accepted (Clock r) ok) = by-look (Clock r ∷ h) (command s h) .0
 
+  -- a step that leaves the clock leaves a command up: who comes is not due within D yet, and who was present was not
+  pub stays-up : Fitting s → (h : History) → Valid s h → (x : Step) → stepRefusal s h x ≡ 0 → instant (x ∷ h) ≡ instant h →
+      command s h ≡ Up → command s (x ∷ h) ≡ Up
+  stays-up g h v x ok clock up = go (command s (x ∷ h)) refl
+    where
+      none : DueBy (seen s h) (lowering s h) → ⊥
+      none = subst (λ (k : Command). Settled k h) up (settled h v)
+
+      due : DueBy (seen s (x ∷ h)) (lowering s (x ∷ h)) → ⊥
+      due (n, a, d) = by (change g (accepted x ok) n)
+        where
+          by : Change s (seen s h) (seen s (x ∷ h)) n → ⊥
+          by (same p q r) = none (n, ap isAway (sym p) ∙ a, omega (arith, d, q, clock))
+          by (comes p q l b i) = omega (arith, d, l, i)
+          by (enters p q e b i) = none (n, coming-present p, omega (arith, d, e, i))
+          by (leaves p q i) = present-away a q
+
+      go : (l : Command) → command s (x ∷ h) ≡ l → l ≡ Up
+      go Up e = refl
+      go Down e = absurd (due (lowered (looked v (accepted x ok))))
+        where
+          lowered : Looked s (command s h) (command s (x ∷ h)) (seen s (x ∷ h)) → DueBy (seen s (x ∷ h)) (lowering s (x ∷ h))
+          lowered w = rw (up, e) at w
+
+  -- at a lower some present train is due within D
+  pub lowered-due : (xs : List Step) (i : ℕ) → command s (moment s xs i) ≡ Up → command s (moment s xs (suc i)) ≡ Down →
+      someDue s (moment s xs (suc i)) (lowering s (moment s xs (suc i))) ≡ true
+  lowered-due xs i up down = go (someDue s (moment s xs (suc i)) (lowering s (moment s xs (suc i)))) refl
+    where
+      seen-looked : Looked s (command s (moment s xs i)) (command s (moment s xs (suc i))) (seen s (moment s xs (suc i)))
+      seen-looked = looked (valid s (take i xs) [] tt) (next s xs [] i)
+
+      due : DueBy (seen s (moment s xs (suc i))) (lowering s (moment s xs (suc i)))
+      due = rw (up, down) at seen-looked
+
+      go : (t : Bool) → someDue s (moment s xs (suc i)) (lowering s (moment s xs (suc i))) ≡ t → t ≡ true
+      go true e = refl
+      go false e = absurd (none-due (moment s xs (suc i)) (lowering s (moment s xs (suc i))) e due)
+
   -- no raise waits
   never : (h : History) → Valid s h → Waits s (seen s h) → ⊥
   never h v (e, none) = none (subst (λ (k : Command). Settled k h) e (settled h v))

@@ -2,6 +2,7 @@
 -- The laws go by what an event does to its train: where no train goes, all who were present stay; where none comes, all who are present were.
 -- So the looks of the two only ever turn the command one way, and one look at the end gives the same. Assumes nothing.
 use Prim.Native.Nat.{ℕ}
+use native.Mathlib.Omega.{arith}
 use native.Mathlib.Decide.{ℕ-discrete}
 use mathlib.Core.Path.{_≡_, refl, sym, _∙_, ap}
 use mathlib.Core.Bool.{false, true≢false}
@@ -9,7 +10,10 @@ use mathlib.Core.List.{List, [], _∷_, _++_, map}
 use mathlib.Core.Logic.{_≢_, _⊎_, inl, inr}
 use lib.ListN.{take}
 use Rattle.settings.specs.declared.Settings.{Settings}
+use Rattle.settings.proofs.Laws.{Fitting, accepted-fits}
 use Rattle.arm.specs.declared.Command.{Command}
+use Rattle.arm.specs.declared.Command.the-variants.{Up, Down}
+use Rattle.trains.specs.First.{trainOf}
 use Rattle.bench.specs.declared.Event.{Event}
 use Rattle.bench.specs.declared.Event.the-variants as events
 use Rattle.bench.specs.Bench.{freshBench}
@@ -18,13 +22,14 @@ use Rattle.cabinet.specs.declared.Order.the-variants.{Nothing, Lower, Raise}
 use Rattle.cabinet.specs.Cabinet.{numberOf, orderOf}
 use Rattle.runs.specs.declared.Step.{Step}
 use Rattle.runs.specs.declared.Step.the-variants.{Occupy}
-use Rattle.runs.specs.History.{History, instant, Place, away, coming, inside, isAway, isComing, look, command, stepRefusal, after, given, history, stepRefusals, orders}
+use Rattle.runs.specs.History.{History, instant, Place, away, coming, inside, isAway, isComing, soonest, look, command, stepRefusal, after, given, history, stepRefusals, orders}
 use Rattle.runs.specs.Steps.{benchAfter, benchAnswers}
 use Rattle.runs.specs.Claims.{AllTaken}
 use Rattle.runs.specs.Match.{Valid, Match}
 use Rattle.runs.specs.Letters.{eventStep}
 use Rattle.runs.specs.Swap.{placeAfter, comesAndGoes, SameTrain, SameMoment, commandsGiven, SameHistory, SameBuilt, Swap}
 use Rattle.runs.proofs.Invariants.{valid}
+use Rattle.runs.proofs.Single.{stays-up}
 use Rattle.runs.proofs.Looks.{look-again}
 use Rattle.runs.proofs.Agreement.{unmoved, fresh-match, run-match, run-numbers, run-orders}
 use Rattle.runs.proofs.Events.{event-instant, event-arm, same-then, same-back, event-other, event-alike, event-number, stays, stayed}
@@ -50,17 +55,24 @@ other-way : (p q : Place) → OneWay p q → OneWay q p
 other-way p q (inl z) = inl (z .1, z .0)
 other-way p q (inr z) = inr (z .1, z .0)
 
+-- where a command up stays up no train is named
+no-lower : (n : ℕ) (a b : Command) → (a ≡ Up → b ≡ Up) → given n a b ≡ given 0 a b
+no-lower n Up Up e = refl
+no-lower n Up Down e = let z = e refl in absurd (let y : _≡_ {A = ℕ} 0 1 = cc in omega arith)
+no-lower n Down Up e = refl
+no-lower n Down Down e = refl
+
 -- a command that turns once at most
-given-once : (a b c : Command) → (b ≡ a) ⊎ (b ≡ c) → commandsGiven (given a b ∷ given b c ∷ []) ≡ commandsGiven (given a c ∷ [])
-given-once a b c (inl e) = rw (e, unmoved a)
-given-once a b c (inr e) = rw (e, unmoved c) (left-out (given a c))
+given-once : (a b c : Command) → (b ≡ a) ⊎ (b ≡ c) → commandsGiven (given 0 a b ∷ given 0 b c ∷ []) ≡ commandsGiven (given 0 a c ∷ [])
+given-once a b c (inl e) = rw (e, unmoved 0 a)
+given-once a b c (inr e) = rw (e, unmoved 0 c) (left-out (given 0 a c))
   where
     left-out : (o : Order) → commandsGiven (o ∷ Nothing ∷ []) ≡ commandsGiven (o ∷ [])
     left-out Nothing = refl
-    left-out Lower = refl
+    left-out (Lower n) = refl
     left-out Raise = refl
 
-module _ (s : Settings) where
+module _ (s : Settings) (g : Fitting s) where
   -- ---- two events
 
   -- the command after an accepted event is that of a look, also where the cabinet does not hear it
@@ -100,10 +112,17 @@ module _ (s : Settings) where
     last-command : command s two ≡ look s two (command s h)
     last-command = second-command ∙ one-turn .0
 
-    -- and what they give is given once
-    both-given : commandsGiven (orders s h (eventStep e n ∷ eventStep f m ∷ [])) ≡ commandsGiven (given (command s h) (command s two) ∷ [])
+    -- and what they give is given once; it is no lower, which only a tick brings about
+    both-given : commandsGiven (orders s h (eventStep e n ∷ eventStep f m ∷ [])) ≡ commandsGiven (given 0 (command s h) (command s two) ∷ [])
     unfolding orders
-    both-given = rw (taken .0, taken .1 .0) (given-once (command s h) (command s one) (command s two) (once (one-turn .1)))
+    both-given =
+        rw (
+          taken .0,
+          taken .1 .0,
+          no-lower (trainOf (soonest s one)) (command s h) (command s one) (stays-up s g h v (eventStep e n) (taken .0) (event-instant e n h)),
+          no-lower (trainOf (soonest s two)) (command s one) (command s two) (stays-up s g one (v, taken .0) (eventStep f m) (taken .1 .0) (event-instant f m one)),
+        )
+        (given-once (command s h) (command s one) (command s two) (once (one-turn .1)))
       where
         once : (look s one (command s h) ≡ command s h) ⊎ (look s one (command s h) ≡ look s two (look s one (command s h))) →
             (command s one ≡ command s h) ⊎ (command s one ≡ command s two)
@@ -175,7 +194,7 @@ module _ (s : Settings) where
   unfolding history
   history-two x y xs h taken = rw (taken .0, taken .1 .0)
 
-module _ (s : Settings) (before : List Step) (e f : Event) (n m : ℕ) (rest : List Step) (apart : n ≢ m) (way : OneWay (placeAfter e) (placeAfter f))
+module _ (s : Settings) (g : Fitting s) (before : List Step) (e f : Event) (n m : ℕ) (rest : List Step) (apart : n ≢ m) (way : OneWay (placeAfter e) (placeAfter f))
     (taken : AllTaken s (history s [] before) (eventStep e n ∷ eventStep f m ∷ [])) where
   abbrev x : Step
   x = eventStep e n
@@ -190,23 +209,23 @@ module _ (s : Settings) (before : List Step) (e f : Event) (n m : ℕ) (rest : L
   v = valid s before [] tt
 
   back : AllTaken s start (y ∷ x ∷ [])
-  back = swapped-taken s start v e f n m way taken apart
+  back = swapped-taken s g start v e f n m way taken apart
 
   same : (xs : List Step) → SameMoment s (history s [] (before ++ y ∷ x ∷ xs)) (history s [] (before ++ x ∷ y ∷ xs))
   same xs =
       rw (
-        history-then s before (y ∷ x ∷ xs) [],
-        history-then s before (x ∷ y ∷ xs) [],
-        history-two s y x xs start back,
-        history-two s x y xs start taken,
+        history-then s g before (y ∷ x ∷ xs) [],
+        history-then s g before (x ∷ y ∷ xs) [],
+        history-two s g y x xs start back,
+        history-two s g x y xs start taken,
       )
-      (history-same s xs (swapped-moment s start v e f n m way apart taken))
+      (history-same s xs (swapped-moment s g start v e f n m way apart taken))
 
   between : commandsGiven (orders s start (y ∷ x ∷ [])) ≡ commandsGiven (orders s start (x ∷ y ∷ []))
   between =
-      both-given s start v f e m n (other-way (placeAfter e) (placeAfter f) way) back
-      ∙ ap (λ (k : Command). commandsGiven (given (command s start) k ∷ [])) (swapped-moment s start v e f n m way apart taken .command)
-      ∙ sym (both-given s start v e f n m way taken)
+      both-given s g start v f e m n (other-way (placeAfter e) (placeAfter f) way) back
+      ∙ ap (λ (k : Command). commandsGiven (given 0 (command s start) k ∷ [])) (swapped-moment s g start v e f n m way apart taken .command)
+      ∙ sym (both-given s g start v e f n m way taken)
 
   rules : SameHistory s before x y rest
   rules = record {
@@ -249,5 +268,6 @@ module _ (s : Settings) (before : List Step) (e f : Event) (n m : ℕ) (rest : L
 
 pub swap : Swap
 swap s accepted before e f n m rest apart allowed taken =
+    let g = accepted-fits s accepted in
     let way = one-way (placeAfter e) (placeAfter f) allowed in
-    (rules s before e f n m rest apart way taken, built s before e f n m rest apart way taken)
+    (rules s g before e f n m rest apart way taken, built s g before e f n m rest apart way taken)

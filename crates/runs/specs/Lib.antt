@@ -9,3 +9,4 @@ pub mod Match
 pub mod Letters
 pub mod Run
 pub mod Swap
+pub mod Soonest

@@ -63,11 +63,11 @@ pub record SameBench (b c : Bench) : Type 0 where
   pub command : commandOf b ≡ commandOf c
   pub trains : (n : ℕ) → entryAt b n ≡ entryAt c n
 
--- the commands given at some steps, in order, whichever of the steps gave them
+-- the commands given at some steps, in order, a lower with its train, whichever of the steps gave them
 abbrev pub commandsGiven : List Order → List Order
 commandsGiven [] = []
 commandsGiven (Nothing ∷ given) = commandsGiven given
-commandsGiven (Lower ∷ given) = Lower ∷ commandsGiven given
+commandsGiven (Lower n ∷ given) = Lower n ∷ commandsGiven given
 commandsGiven (Raise ∷ given) = Raise ∷ commandsGiven given
 
 -- the bench as built after a list from fresh, and what it answers to the steps that follow

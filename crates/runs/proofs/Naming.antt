@@ -1,0 +1,64 @@
+-- A lower names the train that is due soonest, on every list of steps. Assumes nothing.
+use Prim.Native.Nat.{ℕ, suc, _≤_}
+use native.Mathlib.Omega.{arith}
+use mathlib.Core.Path.{_≡_, refl, sym, _∙_, ap}
+use mathlib.Core.Bool.{Bool, true, false, cond, false≢true}
+use mathlib.Core.List.{List, []}
+use lib.Dec.{leb}
+use lib.ListN.{take}
+use borrow.Author.Tests.{leb-true}
+use Rattle.settings.specs.declared.Settings.{Settings}
+use Rattle.arm.specs.declared.Command.{Command}
+use Rattle.arm.specs.declared.Command.the-variants.{Up, Down}
+use Rattle.trains.specs.declared.First.{First}
+use Rattle.trains.specs.declared.First.the-variants.{Nobody, Train}
+use Rattle.trains.specs.declared.Question.the-variants.{Due}
+use Rattle.trains.specs.First.{reachedBy, trainOf, firstIn}
+use Rattle.cabinet.specs.declared.Order.the-variants.{Lower}
+use Rattle.bench.specs.Bench.{freshBench}
+use Rattle.runs.specs.declared.Step.{Step}
+use Rattle.runs.specs.History.{History, soonest, lowering, command, given, history, moment}
+use Rattle.runs.specs.Steps.{benchAfter}
+use Rattle.runs.specs.Match.{Match}
+use Rattle.runs.specs.Soonest.{builtAt, SoonestNamed, SoonestAlways}
+use Rattle.runs.proofs.Soonest.{soonest-says}
+use Rattle.runs.proofs.Single.{lowered-due}
+use Rattle.runs.proofs.Agreement.{table-soonest, fresh-match, run-match}
+
+-- a lower turns the command down, and names what it was given
+lower-says : (m n : ℕ) (k l : Command) → given m k l ≡ Lower n → (k ≡ Up) × (l ≡ Down) × (m ≡ n)
+lower-says m n Up Up e = absurd (let z : _≡_ {A = ℕ} 0 1 = cc in omega arith)
+lower-says m n Up Down e = (refl, refl, cc)
+lower-says m n Down Up e = absurd (let z : _≡_ {A = ℕ} 0 1 = cc in omega arith)
+lower-says m n Down Down e = absurd (let z : _≡_ {A = ℕ} 0 1 = cc in omega arith)
+
+-- one whose instant is reached is a train
+reached-train : (t : ℕ) (f : First) → reachedBy t f ≡ true → (u : ℕ) × (f ≡ Train (trainOf f) u) × (u ≤ t)
+unfolding reachedBy
+reached-train t Nobody e = absurd (false≢true e)
+reached-train t (Train n u) e = (u, refl, leb-true u t e)
+
+module _ (s : Settings) (xs : List Step) where
+  matched : (i : ℕ) → Match s (moment s xs i) (builtAt s xs i)
+  matched i = run-match s (take i xs) [] (freshBench s) tt (fresh-match s)
+
+  table : (i : ℕ) → firstIn s Due (builtAt s xs i .table) ≡ soonest s (moment s xs i)
+  table i = table-soonest (matched i .core)
+
+  kept : (i : ℕ) → builtAt s xs i .head .soonest ≡ soonest s (moment s xs i)
+  kept i = let m = matched i in m .kept .soonest ∙ rw (m .core .settings) (table i)
+
+  pub named : SoonestNamed s xs
+  named = record {
+    laws = λ i. soonest-says s (moment s xs i);
+    table = table;
+    kept = kept;
+    lowers = λ i n e.
+        let l = lower-says _ n (command s (moment s xs i)) (command s (moment s xs (suc i))) e in
+        let d = lowered-due s xs i (l .0) (l .1) in
+        let r = reached-train (lowering s (moment s xs (suc i))) (soonest s (moment s xs (suc i))) (sym (soonest-says s (moment s xs (suc i)) .due (lowering s (moment s xs (suc i)))) ∙ d) in
+        (l .0, l .1, (r .0, r .1 ∙ ap (λ (k : ℕ). Train k (r .0)) (l .2), r .2));
+  }
+
+pub soonest-always : SoonestAlways
+soonest-always = named
