@@ -8,14 +8,14 @@ use Rattle.settings.specs.declared.Settings.{Settings}
 use Rattle.settings.specs.declared.Verdict.the-variants.{Taken, Refused}
 use Rattle.cabinet.specs.declared.Cabinet.{Cabinet}
 use Rattle.cabinet.specs.declared.Stepped.{Stepped}
-use Rattle.cabinet.specs.Cabinet.{numberOf, freshCabinet, refused}
+use Rattle.cabinet.specs.Cabinet.{numberOf, orderOf, freshCabinet, refused}
 use Rattle.bench.specs.declared.Event.the-variants as events
 use Rattle.runs.specs.declared.Feed.the-variants.{ToCabinet}
 use Rattle.runs.specs.declared.Letter.{Letter}
 use Rattle.runs.specs.declared.Letter.the-variants as letter
 use Rattle.runs.specs.Letters.{letterOf}
 use Rattle.runs.specs.Claims.{Heard, approaching, leaving, ticking, cabinetStepped, cabinetAfter, cabinetAnswers}
-use Rattle.runs.specs.Run.{answerByte, runRefusal, unlessRefused}
+use Rattle.runs.specs.Run.{Told, runRefusal, toldUnless}
 use Rattle.alone.specs.declared.Ended.{Ended}
 
 -- ---- the list
@@ -43,20 +43,19 @@ hearing c (x ∷ xs) = cabinetStepped c x
 -- ---- run
 
 -- the number that refuses it: the settings' own 1 to 4, 15 a letter that a cabinet does not hear, 14 last, a slice is too short
-abbrev pub aloneRefusal : Settings → List ℕ → ℕ → ℕ → ℕ → ℕ
-aloneRefusal s letters numbers answers orders = runRefusal ToCabinet s letters numbers numbers answers orders
+abbrev pub aloneRefusal : Settings → List ℕ → ℕ → ℕ → ℕ → ℕ → ℕ
+aloneRefusal s letters numbers answers orders named = runRefusal ToCabinet s letters numbers numbers answers orders named
 
 -- what comes back: the cabinet after the list, or the fresh one where it is refused
 abbrev pub endedBy : ℕ → Settings → List Heard → Ended
 endedBy zero s xs = record { verdict = Taken; cabinet = cabinetAfter (freshCabinet s) xs }
 endedBy (suc k) s xs = record { verdict = Refused (suc k); cabinet = freshCabinet s }
 
--- what is written of a list xs with this refusal number: each answer's number, and the record's letter of each command
-pub record Written (s : Settings) (xs : List Heard) (k : ℕ) (answers answersAfter orders ordersAfter : List ℕ) : Type 0 where
-  pub answered : answersAfter ≡ unlessRefused k (map numberOf (cabinetAnswers (freshCabinet s) xs)) answers
-  pub ordered : ordersAfter ≡ unlessRefused k (map answerByte (cabinetAnswers (freshCabinet s) xs)) orders
+-- what is written of a list xs with this refusal number: each answer's number, and each command by letter and train
+abbrev pub written : Settings → List Heard → ℕ → Told → Told
+written s xs k old = toldUnless k (map numberOf (cabinetAnswers (freshCabinet s) xs)) (map orderOf (cabinetAnswers (freshCabinet s) xs)) old
 
 -- and what comes back
-pub record AloneRan (s : Settings) (xs : List Heard) (k : ℕ) (r : Ended) (answers answersAfter orders ordersAfter : List ℕ) : Type 0 where
+pub record AloneRan (s : Settings) (xs : List Heard) (k : ℕ) (r : Ended) (old new : Told) : Type 0 where
   pub ended : r ≡ endedBy k s xs
-  pub written : Written s xs k answers answersAfter orders ordersAfter
+  pub writes : new ≡ written s xs k old

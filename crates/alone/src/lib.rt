@@ -4,7 +4,7 @@ ghost use lib.ListN.{length};
 ghost use Rattle.cabinet.specs.Cabinet.{refused};
 ghost use Rattle.runs.specs.declared.Feed.the-variants.{ToCabinet};
 ghost use Rattle.runs.specs.Claims.{cabinetNext, cabinetAnswer};
-ghost use Rattle.runs.specs.Run.{Beside, WentThrough};
+ghost use Rattle.runs.specs.Run.{told, Beside, WentThrough};
 ghost use Rattle.alone.specs.Alone.{heardBy, heardOf, hearing, aloneRefusal, AloneRan};
 use bench::Event;
 use cabinet::Answer;
@@ -47,17 +47,19 @@ fn hear(c: Cabinet, letter: Letter, n: u32) -> Stepped
     }
 }
 
-// The cabinet taken through the list, each answer and each command written beside what it heard.
+// The cabinet taken through the list, each answer, command and train of a lower written beside what it heard.
 fn go_through(
     first: Cabinet,
     letters: &[u8],
     numbers: &[u32],
     answers: &mut [u8],
     orders: &mut [u8],
+    named: &mut [u32],
 ) -> Cabinet
-    requires { ⌜ Beside ToCabinet (now letters) (length (now numbers)) (length (now numbers)) (length (now answers)) (length (now orders)) ⌝ }
-    ensures { λ r. ⌜ WentThrough cabinetNext cabinetAnswer first (heardOf (now (letters .entry)) (now (numbers .entry)))
-        r (now (answers .entry)) (now (answers .exit)) (now (orders .entry)) (now (orders .exit)) ⌝ }
+    requires { ⌜ Beside ToCabinet (now letters) (length (now numbers)) (length (now numbers)) (length (now answers)) (length (now orders))
+        (length (now named)) ⌝ }
+    ensures { λ r. ⌜ WentThrough cabinetNext cabinetAnswer first (heardOf (now (letters .entry)) (now (numbers .entry))) r
+        (told (now (answers .entry)) (now (orders .entry)) (now (named .entry))) (told (now (answers .exit)) (now (orders .exit)) (now (named .exit))) ⌝ }
 {
     let mut c = first;
     let mut i: usize = 0;
@@ -67,25 +69,29 @@ fn go_through(
         let answer = m.answer;
         answers[i] = runs::number_byte(answer);
         orders[i] = runs::order_byte(answer);
+        named[i] = runs::order_train(answer);
         c = m.cabinet;
         i = i + 1;
     }
     c
 }
 
-// A fresh cabinet under the settings, taken through the list: A, B, E, F approach of kinds 1 to 4, L leave, T clock. Each answer's refusal number (0 taken) and
-// command (D, U or 0) are written beside it, all other places keep their contents, and the cabinet after the list comes back. Refused as
-// a whole, nothing is written: the settings' own number, 15 for any other letter, O too, 14 for a slice that is too short.
+// A fresh cabinet under the settings, taken through the list: A, B, E, F approach of kinds 1 to 4, L leave, T clock. Each answer's refusal
+// number (0 taken), command (D, U or 0) and train of a lower (or 0) are written beside it, all other places keep their contents, and the
+// cabinet after the list comes back. Refused as a whole, nothing is written: the settings' own number, 15 for any other letter, O too, 14
+// for a slice that is too short.
 pub fn run(
     s: Settings,
     letters: &[u8],
     numbers: &[u32],
     answers: &mut [u8],
     orders: &mut [u8],
+    named: &mut [u32],
 ) -> Ended
     ensures { λ r. ⌜ AloneRan s (heardOf (now (letters .entry)) (now (numbers .entry)))
-        (aloneRefusal s (now (letters .entry)) (length (now (numbers .entry))) (length (now (answers .entry))) (length (now (orders .entry))))
-        r (now (answers .entry)) (now (answers .exit)) (now (orders .entry)) (now (orders .exit)) ⌝ }
+        (aloneRefusal s (now (letters .entry)) (length (now (numbers .entry))) (length (now (answers .entry))) (length (now (orders .entry)))
+        (length (now (named .entry)))) r
+        (told (now (answers .entry)) (now (orders .entry)) (now (named .entry))) (told (now (answers .exit)) (now (orders .exit)) (now (named .exit))) ⌝ }
 {
     let fresh = cabinet::start(s).cabinet;
     let n = numbers.len();
@@ -97,9 +103,10 @@ pub fn run(
         n,
         answers.len(),
         orders.len(),
+        named.len(),
     );
     if k == 0 {
-        let last = go_through(fresh, letters, numbers, answers, orders);
+        let last = go_through(fresh, letters, numbers, answers, orders, named);
         Ended {
             verdict: Verdict::Taken,
             cabinet: last,

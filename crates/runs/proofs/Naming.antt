@@ -14,14 +14,17 @@ use Rattle.trains.specs.declared.First.{First}
 use Rattle.trains.specs.declared.First.the-variants.{Nobody, Train}
 use Rattle.trains.specs.declared.Question.the-variants.{Due}
 use Rattle.trains.specs.First.{reachedBy, trainOf, firstIn}
+use Rattle.trains.proofs.Laws.{train-says}
 use Rattle.cabinet.specs.declared.Order.the-variants.{Lower}
 use Rattle.bench.specs.Bench.{freshBench}
 use Rattle.runs.specs.declared.Step.{Step}
-use Rattle.runs.specs.History.{History, soonest, lowering, command, given, history, moment}
+use Rattle.runs.specs.History.{History, soonest, lowering, command, given, orderBetween, moment}
 use Rattle.runs.specs.Steps.{benchAfter}
-use Rattle.runs.specs.Match.{Match}
+use Rattle.runs.specs.Letters.{orderTrain}
+use Rattle.runs.specs.Match.{Valid, Match}
 use Rattle.runs.specs.Soonest.{builtAt, SoonestNamed, SoonestAlways}
 use Rattle.runs.proofs.Soonest.{soonest-says}
+use Rattle.runs.proofs.Invariants.{present-train}
 use Rattle.runs.proofs.Single.{lowered-due}
 use Rattle.runs.proofs.Agreement.{table-soonest, fresh-match, run-match}
 
@@ -31,6 +34,25 @@ lower-says m n Up Up e = absurd (let z : _≡_ {A = ℕ} 0 1 = cc in omega arith
 lower-says m n Up Down e = (refl, refl, cc)
 lower-says m n Down Up e = absurd (let z : _≡_ {A = ℕ} 0 1 = cc in omega arith)
 lower-says m n Down Down e = absurd (let z : _≡_ {A = ℕ} 0 1 = cc in omega arith)
+
+-- the train of a command is at most the one it was given
+order-most : (n : ℕ) (k l : Command) → orderTrain (given n k l) ≤ n
+order-most n Up Up = omega arith
+order-most n Up Down = omega arith
+order-most n Down Up = omega arith
+order-most n Down Down = omega arith
+
+-- so after accepted steps it is at most 96
+pub order-small : (s : Settings) (h g : History) → Valid s g → orderTrain (orderBetween s h g) ≤ 96
+order-small s h g v = go (soonest s g) refl
+  where
+    go : (f : First) → soonest s g ≡ f → orderTrain (orderBetween s h g) ≤ 96
+    go Nobody e = let m = order-most (trainOf (soonest s g)) (command s h) (command s g) in let z : trainOf (soonest s g) ≡ 0 = ap trainOf e in omega arith
+    go (Train n t) e =
+        let m = order-most (trainOf (soonest s g)) (command s h) (command s g) in
+        let z : trainOf (soonest s g) ≡ n = ap trainOf e in
+        let l = train-says n (present-train s g v n (soonest-says s g .present n t e .0)) .1 in
+        omega arith
 
 -- one whose instant is reached is a train
 reached-train : (t : ℕ) (f : First) → reachedBy t f ≡ true → (u : ℕ) × (f ≡ Train (trainOf f) u) × (u ≤ t)
