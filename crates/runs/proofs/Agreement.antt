@@ -363,12 +363,13 @@ module _ (s : Settings) where
       ap₂ (λ (k : ℕ) (l : List ℕ). k ∷ l) (ap numberOf (p .answer) ∙ number-answer (stepRefusal s h x) (orderAt s h x))
       (run-numbers xs (after s h x) (benchStepped b x .bench) (valid-after s h x v) (p .match))
 
+  -- the command of an answer with the number k, given o where the step is taken
+  pub order-kept : (h : History) (x : Step) (k : ℕ) (o : Order) → (k ≡ 0 → o ≡ orderBetween s h (x ∷ h)) → orderOf (answerOf k o) ≡ orderBetween s h (keep k x h)
+  order-kept h x zero o e = e refl
+  order-kept h x (suc k) o e = sym (unmoved _ (command s h))
+
   order-answer : (h : History) (x : Step) → orderOf (answerOf (stepRefusal s h x) (orderAt s h x)) ≡ orderAt s h x
-  order-answer h x = go (stepRefusal s h x)
-    where
-      go : (k : ℕ) → orderOf (answerOf k (orderBetween s h (keep k x h))) ≡ orderBetween s h (keep k x h)
-      go zero = refl
-      go (suc k) = sym (unmoved _ (command s h))
+  order-answer h x = order-kept h x (stepRefusal s h x) (orderAt s h x) (λ z. rw z)
 
   pub run-orders : (xs : List Step) (h : History) (b : Bench) → Valid s h → Match s h b → map orderOf (benchAnswers b xs) ≡ orders s h xs
   unfolding orders answersTo
