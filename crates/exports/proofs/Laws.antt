@@ -13,7 +13,7 @@ use Rattle.cabinet.specs.declared.Answer.the-variants.{Taken}
 use Rattle.cabinet.specs.Cabinet as cabinet
 use Rattle.runs.specs.declared.Step.{Step}
 use Rattle.runs.specs.declared.Finished.{Finished}
-use Rattle.runs.specs.Run.{finishedBy, unlessRefused, Ran}
+use Rattle.runs.specs.Run.{Told, finishedBy, unlessRefused, Ran}
 use Rattle.runs.specs.Claims.{Heard}
 use Rattle.alone.specs.declared.Ended.{Ended}
 use Rattle.alone.specs.Alone.{endedBy, AloneRan}
@@ -34,20 +34,19 @@ number-finished zero s xs = refl
 number-finished (suc k) s xs = refl
 
 -- a run that was answered by the number of its verdict
-pub answered-run : (s : Settings) (xs : List Step) (k : ℕ) (r : Finished) (a b o p : List ℕ) (n : ℕ) → Ran s xs k r a b o p → n ≡ numberOf (r .verdict) → Answered s xs k n a b o p
-answered-run s xs k r a b o p n ran e =
+pub answered-run : (s : Settings) (xs : List Step) (k : ℕ) (r : Finished) (old new : Told) (n : ℕ) → Ran s xs k r old new → n ≡ numberOf (r .verdict) → Answered s xs k n old new
+answered-run s xs k r old new n ran e =
     record {
       number = e ∙ ap (λ (f : Finished). numberOf (f .verdict)) (ran .finished) ∙ number-finished k s xs;
-      answered = ran .answered;
-      ordered = ran .ordered;
+      written = ran .written;
       demand = ran .demand;
     }
 
 -- a cabinet's, in the same way
-pub answered-alone : (s : Settings) (xs : List Heard) (k : ℕ) (r : Ended) (a b o p : List ℕ) (n : ℕ) →
-    AloneRan s xs k r a b o p → n ≡ numberOf (r .verdict) → CabinetAnswered s xs k n a b o p
-answered-alone s xs k r a b o p n ran e =
-    record { number = e ∙ ap (λ (f : Ended). numberOf (f .verdict)) (ran .ended) ∙ go k; written = ran .written }
+pub answered-alone : (s : Settings) (xs : List Heard) (k : ℕ) (r : Ended) (old new : Told) (n : ℕ) →
+    AloneRan s xs k r old new → n ≡ numberOf (r .verdict) → CabinetAnswered s xs k n old new
+answered-alone s xs k r old new n ran e =
+    record { number = e ∙ ap (λ (f : Ended). numberOf (f .verdict)) (ran .ended) ∙ go k; writes = ran .writes }
   where
     go : (k : ℕ) → numberOf (endedBy k s xs .verdict) ≡ k
     go zero = refl
@@ -79,8 +78,8 @@ module _ (s : Settings) (xs : List Step) (d : List ℕ) where
   count-recorded zero bytes p q = p refl
   count-recorded (suc k) bytes p q = q (λ z. omega arith)
 
-module _ (s : Settings) (xs : List Step) (k : ℕ) (r : Recorded) (answers answersAfter d e : List ℕ) (starts : k ≡ 0 → startIn s d ≡ Taken Nothing)
-    (ran : RunRecorded s xs k r answers answersAfter d e) (n : ℕ) (numbered : n ≡ cabinet.numberOf (r .answer)) where
+module _ (s : Settings) (xs : List Step) (k : ℕ) (r : Recorded) (old new : Told) (d e : List ℕ) (starts : k ≡ 0 → startIn s d ≡ Taken Nothing)
+    (ran : RunRecorded s xs k r old new d e) (n : ℕ) (numbered : n ≡ cabinet.numberOf (r .answer)) where
   number-is : n ≡ k
   number-is = numbered ∙ ap (λ (g : Recorded). cabinet.numberOf (g .answer)) (ran .gives) ∙ number-recorded s xs d k
 
@@ -90,11 +89,11 @@ module _ (s : Settings) (xs : List Step) (k : ℕ) (r : Recorded) (answers answe
 
   -- a recording that was answered by its bytes and its number
   pub record-answered : (bytes : ℕ) → ((n ≡ 0) × (bytes ≡ r .recorder .at + lineBytes current)) ⊎ ((n ≡ 0 → ⊥) × (bytes ≡ 0)) →
-      RecordAnswered s xs k (pack bytes n) answers answersAfter d e
+      RecordAnswered s xs k (pack bytes n) old new d e
   record-answered bytes came =
       record {
         number = rw number-is (ap (λ (m : ℕ). pack m k) (count came));
-        numbered = ran .numbered;
+        written = ran .written;
         bytes = ran .leaves ∙ bytes-recorded s xs d k starts;
         only = ran .only;
       }

@@ -2,34 +2,33 @@
 use Prim.Native.Nat.{ℕ, zero, suc, _+_, _*_, _%_}
 use mathlib.Core.Path.{_≡_}
 use mathlib.Core.Bool.{cond}
-use mathlib.Core.List.{List, [], map}
+use mathlib.Core.List.{List, []}
 use lib.Dec.{eqb}
 use lib.ListN.{length}
 use Rattle.settings.specs.declared.Settings.{Settings}
 use Rattle.settings.specs.Settings.{numberOf}
 use Rattle.runs.specs.declared.Step.{Step}
 use Rattle.runs.specs.History as rules
-use Rattle.runs.specs.Run.{unlessRefused, orderByte}
+use Rattle.runs.specs.Run.{Told, unlessRefused, toldUnless}
 use Rattle.runs.specs.Demand.{Demand3}
 use Rattle.runs.specs.Claims.{Heard}
-use Rattle.alone.specs.Alone.{Written}
+use Rattle.alone.specs.Alone.{written}
 use Rattle.recorder.specs.Text.{current, text}
-use Rattle.recorder.specs.Recording.{stepRefusalsIn, runSoFar}
+use Rattle.recorder.specs.Recording.{stepRefusalsIn, ordersIn, runSoFar}
 use Rattle.lines.specs.Place.{WritesOnly}
 use Rattle.lines.specs.Bytes.{fits, splice}
 use Rattle.reader.specs.declared.Outcome.{Outcome}
 
 -- a run of a list xs with this refusal number: the number is answered, what the rules say of the list is written, and demand 3 holds for it
-pub record Answered (s : Settings) (xs : List Step) (k r : ℕ) (answers answersAfter orders ordersAfter : List ℕ) : Type 0 where
+pub record Answered (s : Settings) (xs : List Step) (k r : ℕ) (old new : Told) : Type 0 where
   pub number : r ≡ k
-  pub answered : answersAfter ≡ unlessRefused k (rules.stepRefusals s [] xs) answers
-  pub ordered : ordersAfter ≡ unlessRefused k (map orderByte (rules.orders s [] xs)) orders
+  pub written : new ≡ toldUnless k (rules.stepRefusals s [] xs) (rules.orders s [] xs) old
   pub demand : k ≡ 0 → Demand3 s xs
 
 -- a list of what a cabinet alone hears, with this refusal number: the number is answered, and the cabinet's answers are written
-pub record CabinetAnswered (s : Settings) (xs : List Heard) (k r : ℕ) (answers answersAfter orders ordersAfter : List ℕ) : Type 0 where
+pub record CabinetAnswered (s : Settings) (xs : List Heard) (k r : ℕ) (old new : Told) : Type 0 where
   pub number : r ≡ k
-  pub written : Written s xs k answers answersAfter orders ordersAfter
+  pub writes : new ≡ written s xs k old
 
 -- 256 times a count, and a refusal number; the count up to 2 ^ 56
 abbrev pub pack : ℕ → ℕ → ℕ
@@ -42,9 +41,9 @@ bytesOf (suc k) t = 0
 
 -- a recording of a list xs with this refusal number, in the record d: the record's bytes and the number are answered, what the rules say of the list is
 -- written beside it, and the text of its run into the record, no other byte of it
-pub record RecordAnswered (s : Settings) (xs : List Step) (k r : ℕ) (answers answersAfter d e : List ℕ) : Type 0 where
+pub record RecordAnswered (s : Settings) (xs : List Step) (k r : ℕ) (old new : Told) (d e : List ℕ) : Type 0 where
   pub number : r ≡ pack (bytesOf k (text current s (runSoFar s (length d) [] xs))) k
-  pub numbered : answersAfter ≡ unlessRefused k (stepRefusalsIn s (length d) [] xs) answers
+  pub written : new ≡ toldUnless k (stepRefusalsIn s (length d) [] xs) (ordersIn s (length d) [] xs) old
   pub bytes : e ≡ unlessRefused k (text current s (runSoFar s (length d) [] xs)) d
   pub only : WritesOnly (eqb k 0) d 0 (text current s (runSoFar s (length d) [] xs)) e
 

@@ -16,7 +16,7 @@ use Rattle.bench.specs.declared.Bench.{Bench}
 use Rattle.bench.specs.Bench.{commandOf, armOf, freshBench}
 use Rattle.runs.specs.declared.Step.{Step}
 use Rattle.runs.specs.Steps.{benchAfter}
-use Rattle.runs.specs.Run.{runRefusalWith, unlessRefused}
+use Rattle.runs.specs.Run.{Told, runRefusalWith, unlessRefused}
 use Rattle.exports.specs.Exports.{Answered}
 
 -- the angle, and its change over the last clock step
@@ -38,13 +38,12 @@ abbrev pub looks : Bench → List ℕ
 looks b = gateNumber (gateOf (commandOf b) (armOf b)) ∷ presentIn (b .table) ∷ []
 
 -- the number that refuses a run after which the bench is looked at: 14 where there are fewer than two places in either
-abbrev pub lookRefusal : Settings → List ℕ → ℕ → ℕ → ℕ → ℕ → ℕ → ℕ → ℕ
-lookRefusal s letters numbers readings answers orders pose look =
-    runRefusalWith s letters numbers readings answers orders (leb 2 pose && leb 2 look)
+abbrev pub lookRefusal : Settings → List ℕ → ℕ → ℕ → ℕ → ℕ → ℕ → ℕ → ℕ → ℕ
+lookRefusal s letters numbers readings answers orders named pose look =
+    runRefusalWith s letters numbers readings answers orders named (leb 2 pose && leb 2 look)
 
 -- a run of a list xs with this refusal number, and what the bench after it shows written
-pub record LookAnswered (s : Settings) (xs : List Step) (k r : ℕ) (answers answersAfter orders ordersAfter : List ℕ)
-    (pose poseAfter : List Float) (look lookAfter : List ℕ) : Type 0 where
-  pub run : Answered s xs k r answers answersAfter orders ordersAfter
+pub record LookAnswered (s : Settings) (xs : List Step) (k r : ℕ) (old new : Told) (pose poseAfter : List Float) (look lookAfter : List ℕ) : Type 0 where
+  pub run : Answered s xs k r old new
   pub shown : poseAfter ≡ unlessRefused k (posed (benchAfter (freshBench s) xs)) pose
   pub numbers : lookAfter ≡ unlessRefused k (looks (benchAfter (freshBench s) xs)) look

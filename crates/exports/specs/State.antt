@@ -19,7 +19,7 @@ use Rattle.bench.specs.declared.Bench.{Bench}
 use Rattle.bench.specs.Bench.{nowOf, commandOf, armOf, freshBench}
 use Rattle.runs.specs.declared.Step.{Step}
 use Rattle.runs.specs.Steps.{benchAfter}
-use Rattle.runs.specs.Run.{runRefusalWith, unlessRefused}
+use Rattle.runs.specs.Run.{Told, runRefusalWith, unlessRefused}
 use Rattle.exports.specs.Exports.{Answered}
 
 -- 0 up, 1 down
@@ -53,10 +53,10 @@ unfoldable pub benchNumbers : Bench → List ℕ
 benchNumbers b = nowOf b ∷ armOf b ∷ b .head .motion .previous ∷ commandNumber (commandOf b) ∷ trainNumbers (b .table) 1 96
 
 -- the number that refuses a run whose bench is written: 14 where there are fewer than 292 places for it
-abbrev pub stateRefusal : Settings → List ℕ → ℕ → ℕ → ℕ → ℕ → ℕ → ℕ
-stateRefusal s letters numbers readings answers orders places = runRefusalWith s letters numbers readings answers orders (leb 292 places)
+abbrev pub stateRefusal : Settings → List ℕ → ℕ → ℕ → ℕ → ℕ → ℕ → ℕ → ℕ
+stateRefusal s letters numbers readings answers orders named places = runRefusalWith s letters numbers readings answers orders named (leb 292 places)
 
 -- a run of a list xs with this refusal number, and the bench after it written
-pub record StateAnswered (s : Settings) (xs : List Step) (k r : ℕ) (answers answersAfter orders ordersAfter state stateAfter : List ℕ) : Type 0 where
-  pub run : Answered s xs k r answers answersAfter orders ordersAfter
+pub record StateAnswered (s : Settings) (xs : List Step) (k r : ℕ) (old new : Told) (state stateAfter : List ℕ) : Type 0 where
+  pub run : Answered s xs k r old new
   pub numbers : stateAfter ≡ unlessRefused k (benchNumbers (benchAfter (freshBench s) xs)) state

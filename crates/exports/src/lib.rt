@@ -4,7 +4,7 @@ ghost use Prim.Native.Nat.{_≤_};
 ghost use lib.ListN.{length};
 ghost use Rattle.settings.specs.Values.{settingsOf};
 ghost use Rattle.runs.specs.declared.Feed.the-variants.{ToBench};
-ghost use Rattle.runs.specs.Run.{stepsOf, over, runRefusal};
+ghost use Rattle.runs.specs.Run.{stepsOf, over, told, runRefusal};
 ghost use Rattle.alone.specs.Alone.{heardOf, aloneRefusal};
 ghost use Rattle.recording.specs.RunRecorded.{recordRefusal};
 ghost use Rattle.recorder.specs.Text.{current};
@@ -30,7 +30,7 @@ use trains::Standing;
 
 // A bench under the settings, thirteen values in their order (one that is missing is 0, and so refused, 1), run through a list of steps
 // (`runs::run`): the refusal number of the run, 0 where it is taken;
-// each step's refusal number and command are written beside it.
+// each step's refusal number, command and train of a lower are written beside it.
 #[no_mangle]
 pub extern "C" fn weqhaso_run(
     values: &[u32],
@@ -39,14 +39,15 @@ pub extern "C" fn weqhaso_run(
     readings: &[f32],
     answers: &mut [u8],
     orders: &mut [u8],
+    named: &mut [u32],
 ) -> u8
     ensures { λ r. ⌜ Answered (settingsOf (now (values .entry))) (stepsOf (now (letters .entry)) (now (numbers .entry)) (now (readings .entry)))
         (runRefusal ToBench (settingsOf (now (values .entry))) (now (letters .entry)) (length (now (numbers .entry))) (length (now (readings .entry)))
-        (length (now (answers .entry))) (length (now (orders .entry))))
-        r (now (answers .entry)) (now (answers .exit)) (now (orders .entry)) (now (orders .exit)) ⌝ }
+        (length (now (answers .entry))) (length (now (orders .entry))) (length (now (named .entry)))) r
+        (told (now (answers .entry)) (now (orders .entry)) (now (named .entry))) (told (now (answers .exit)) (now (orders .exit)) (now (named .exit))) ⌝ }
 {
     let s = settings::of_values(values);
-    let r = runs::run(s, letters, numbers, readings, answers, orders);
+    let r = runs::run(s, letters, numbers, readings, answers, orders, named);
     let v = r.verdict;
     settings::number(v)
 }
@@ -133,18 +134,19 @@ pub extern "C" fn weqhaso_state(
     readings: &[f32],
     answers: &mut [u8],
     orders: &mut [u8],
+    named: &mut [u32],
     state: &mut [u32],
 ) -> u8
     ensures { λ r. ⌜ StateAnswered (settingsOf (now (values .entry)))
         (stepsOf (now (letters .entry)) (now (numbers .entry)) (now (readings .entry)))
         (stateRefusal (settingsOf (now (values .entry))) (now (letters .entry)) (length (now (numbers .entry))) (length (now (readings .entry)))
-        (length (now (answers .entry))) (length (now (orders .entry))) (length (now (state .entry))))
-        r (now (answers .entry)) (now (answers .exit)) (now (orders .entry)) (now (orders .exit))
+        (length (now (answers .entry))) (length (now (orders .entry))) (length (now (named .entry))) (length (now (state .entry)))) r
+        (told (now (answers .entry)) (now (orders .entry)) (now (named .entry))) (told (now (answers .exit)) (now (orders .exit)) (now (named .exit)))
         (now (state .entry)) (now (state .exit)) ⌝ }
 {
     let s = settings::of_values(values);
     let space = 292 <= state.len();
-    let r = runs::run_with(s, letters, numbers, readings, answers, orders, space);
+    let r = runs::run_with(s, letters, numbers, readings, answers, orders, named, space);
     let v = r.verdict;
     let k = settings::number(v);
     if k == 0 {
@@ -190,19 +192,21 @@ pub extern "C" fn weqhaso_look(
     readings: &[f32],
     answers: &mut [u8],
     orders: &mut [u8],
+    named: &mut [u32],
     pose: &mut [f32],
     look: &mut [u32],
 ) -> u8
     ensures { λ r. ⌜ LookAnswered (settingsOf (now (values .entry)))
         (stepsOf (now (letters .entry)) (now (numbers .entry)) (now (readings .entry)))
         (lookRefusal (settingsOf (now (values .entry))) (now (letters .entry)) (length (now (numbers .entry))) (length (now (readings .entry)))
-        (length (now (answers .entry))) (length (now (orders .entry))) (length (now (pose .entry))) (length (now (look .entry))))
-        r (now (answers .entry)) (now (answers .exit)) (now (orders .entry)) (now (orders .exit))
+        (length (now (answers .entry))) (length (now (orders .entry))) (length (now (named .entry))) (length (now (pose .entry)))
+        (length (now (look .entry)))) r
+        (told (now (answers .entry)) (now (orders .entry)) (now (named .entry))) (told (now (answers .exit)) (now (orders .exit)) (now (named .exit)))
         (now (pose .entry)) (now (pose .exit)) (now (look .entry)) (now (look .exit)) ⌝ }
 {
     let s = settings::of_values(values);
     let space = (2 <= pose.len()) & (2 <= look.len());
-    let r = runs::run_with(s, letters, numbers, readings, answers, orders, space);
+    let r = runs::run_with(s, letters, numbers, readings, answers, orders, named, space);
     let v = r.verdict;
     let k = settings::number(v);
     if k == 0 {
@@ -212,7 +216,7 @@ pub extern "C" fn weqhaso_look(
 }
 
 // A cabinet alone under the settings, taken through a list of what it hears (`alone::run`): the refusal number of the whole, 0 where it is
-// taken; each answer's refusal number and command are written beside it.
+// taken; each answer's refusal number, command and train of a lower are written beside it.
 #[no_mangle]
 pub extern "C" fn weqhaso_cabinet(
     values: &[u32],
@@ -220,20 +224,22 @@ pub extern "C" fn weqhaso_cabinet(
     numbers: &[u32],
     answers: &mut [u8],
     orders: &mut [u8],
+    named: &mut [u32],
 ) -> u8
     ensures { λ r. ⌜ CabinetAnswered (settingsOf (now (values .entry))) (heardOf (now (letters .entry)) (now (numbers .entry)))
         (aloneRefusal (settingsOf (now (values .entry))) (now (letters .entry)) (length (now (numbers .entry)))
-        (length (now (answers .entry))) (length (now (orders .entry))))
-        r (now (answers .entry)) (now (answers .exit)) (now (orders .entry)) (now (orders .exit)) ⌝ }
+        (length (now (answers .entry))) (length (now (orders .entry))) (length (now (named .entry)))) r
+        (told (now (answers .entry)) (now (orders .entry)) (now (named .entry))) (told (now (answers .exit)) (now (orders .exit)) (now (named .exit))) ⌝ }
 {
     let s = settings::of_values(values);
-    let r = alone::run(s, letters, numbers, answers, orders);
+    let r = alone::run(s, letters, numbers, answers, orders, named);
     let v = r.verdict;
     settings::number(v)
 }
 
 // A recorder under the settings, taken through a list of steps in the lent record (`recording::record_run`): 256 times the bytes of the
-// record, up to the end of its last line, and the refusal number of the whole; each step's refusal number is written beside it.
+// record, up to the end of its last line, and the refusal number of the whole; each step's refusal number, command and train of a lower are
+// written beside it.
 #[no_mangle]
 pub extern "C" fn weqhaso_record(
     values: &[u32],
@@ -241,16 +247,19 @@ pub extern "C" fn weqhaso_record(
     numbers: &[u32],
     readings: &[f32],
     answers: &mut [u8],
+    orders: &mut [u8],
+    named: &mut [u32],
     out: &mut [u8],
 ) -> u64
     ensures { λ r. ⌜ RecordAnswered (settingsOf (now (values .entry)))
         (stepsOf (now (letters .entry)) (now (numbers .entry)) (now (readings .entry)))
         (recordRefusal (settingsOf (now (values .entry))) (now (letters .entry)) (length (now (numbers .entry))) (length (now (readings .entry)))
-        (length (now (answers .entry))) (length (now (out .entry))))
-        r (now (answers .entry)) (now (answers .exit)) (now (out .entry)) (now (out .exit)) ⌝ }
+        (length (now (answers .entry))) (length (now (orders .entry))) (length (now (named .entry))) (length (now (out .entry)))) r
+        (told (now (answers .entry)) (now (orders .entry)) (now (named .entry))) (told (now (answers .exit)) (now (orders .exit)) (now (named .exit)))
+        (now (out .entry)) (now (out .exit)) ⌝ }
 {
     let s = settings::of_values(values);
-    let r = recording::record_run(s, letters, numbers, readings, answers, out);
+    let r = recording::record_run(s, letters, numbers, readings, answers, orders, named, out);
     let answer = r.answer;
     let recorder = r.recorder;
     let k = runs::number_byte(answer);

@@ -19,12 +19,15 @@ same-length c = search needs
 same-length-2 : tie.Need-same-length-2
 same-length-2 c = search needs
 
+same-length-3 : tie.Need-same-length-3
+same-length-3 c = search needs
+
 returns : tie.Need-returns
 returns c =
-    answered-alone _ _ _ _ _ _ _ _ _
-    (rw (c .before .before .before .before .before .before .before .before .of-values .ensures) at (c .before .before .before .before .before .run .ensures)) (c .number .ensures)
+    answered-alone _ _ _ _ _ _ _
+    (rw (c .before .before .before .before .before .before .before .before .before .before .before .of-values .ensures) at (c .before .before .before .before .before .before .before .run .ensures)) (c .number .ensures)
 
 pub weqhaso-cabinet-spec : {M : Type 1} → statement M
 weqhaso-cabinet-spec =
     tie.close
-    (tie.spec of-values-requires run-requires number-requires same-length same-length-2 returns)
+    (tie.spec of-values-requires run-requires number-requires same-length same-length-2 same-length-3 returns)

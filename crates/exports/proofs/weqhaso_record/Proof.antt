@@ -24,10 +24,10 @@ line-bytes-requires c κs = search needs
 add-bytes : tie.Need-add-bytes
 add-bytes c =
     let line = c .before .before in
-    let k = line .before .before .before .before .before .before .before in
-    let a = k .before .before .before .before .before .before .before .before .before .before in
-    let end = record-end _ _ _ _ _ _ _ _ (λ z. record-starts _ _ _ _ _ _ z) (k .record-run .ensures) _ (line .before .number-byte .ensures) (c .before .if1 .taken) in
-    omega (arith, line .line-bytes .ensures, end .0, end .1, a .good .1 .1 .1 .1 .1 .0)
+    let k = line .before .before .before .before .before .before .before .before .before .before .before in
+    let a = k .before .before .before .before .before .before .before .before .before .before .before .before .before .before in
+    let end = record-end _ _ _ _ _ _ _ _ (λ z. record-starts _ _ _ _ _ _ _ _ z) (k .record-run .ensures) _ (line .before .number-byte .ensures) (c .before .if1 .taken) in
+    omega (arith, line .line-bytes .ensures, end .0, end .1, a .good .1 .1 .1 .1 .1 .1 .1 .0)
 
 mul-result : tie.Need-mul-result
 mul-result c = search needs
@@ -44,11 +44,17 @@ same-length c = search needs
 same-length-2 : tie.Need-same-length-2
 same-length-2 c = search needs
 
+same-length-3 : tie.Need-same-length-3
+same-length-3 c = search needs
+
+same-length-4 : tie.Need-same-length-4
+same-length-4 c = search needs
+
 returns : tie.Need-returns
 returns c =
     let line = c .before .before in
-    let k = line .before .before .before .before .before .before .before in
-    record-answered _ _ _ _ _ _ _ _ (λ z. record-starts _ _ _ _ _ _ z) (rw (k .before .before .before .of-values .ensures) at (k .record-run .ensures)) _ (line .before .number-byte .ensures)
+    let k = line .before .before .before .before .before .before .before .before .before .before .before in
+    record-answered _ _ _ _ _ _ _ _ (λ z. record-starts _ _ _ _ _ _ _ _ z) (rw (k .before .before .before .before .before .of-values .ensures) at (k .record-run .ensures)) _ (line .before .number-byte .ensures)
     (c .before .if1 .bytes) (⊎-elim (λ x. inl (x .0 .taken, x .2 ∙ ap (λ (n : ℕ). k .record-run .result .recorder .at + n) (line .line-bytes .ensures))) (λ x. inr (x .0 .left, x .1)) (c .before .if1 .came))
 
 pub weqhaso-record-spec : {M : Type 1} → statement M
@@ -65,4 +71,6 @@ weqhaso-record-spec =
     add-result
     same-length
     same-length-2
+    same-length-3
+    same-length-4
     returns)

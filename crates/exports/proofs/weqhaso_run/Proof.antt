@@ -19,11 +19,14 @@ same-length c = search needs
 same-length-2 : tie.Need-same-length-2
 same-length-2 c = search needs
 
+same-length-3 : tie.Need-same-length-3
+same-length-3 c = search needs
+
 returns : tie.Need-returns
 returns c =
-    answered-run _ _ _ _ _ _ _ _ _ (rw (c .before .before .before .before .before .before .before .before .of-values .ensures) at (c .before .before .before .before .before .run .ensures)) (c .number .ensures)
+    answered-run _ _ _ _ _ _ _ (rw (c .before .before .before .before .before .before .before .before .before .before .before .of-values .ensures) at (c .before .before .before .before .before .before .before .run .ensures)) (c .number .ensures)
 
 pub weqhaso-run-spec : {M : Type 1} → statement M
 weqhaso-run-spec =
     tie.close
-    (tie.spec of-values-requires run-requires number-requires same-length same-length-2 returns)
+    (tie.spec of-values-requires run-requires number-requires same-length same-length-2 same-length-3 returns)
