@@ -10,7 +10,7 @@ use Rattle.worked.specs.Worked.{like, K}
 use Rattle.runs.specs.declared.Step.{Step}
 use Rattle.runs.specs.declared.Feed.the-variants.{ToBench}
 use Rattle.runs.specs.History.{stepRefusals, orders}
-use Rattle.runs.specs.Run.{stepsOf, orderByte, over, runRefusal}
+use Rattle.runs.specs.Run.{stepsOf, Told, told, toldOver, runRefusal}
 use Rattle.starred.specs.declared.Fall.{Fall}
 use Rattle.starred.specs.declared.Change.{Change}
 use Rattle.starred.specs.declared.Listed.{Listed}
@@ -34,21 +34,20 @@ lettersIn x = take (x .steps) (x .letters)
 abbrev pub stepsIn : Listed → List Step
 stepsIn x = stepsOf (lettersIn x) (x .numbers) (x .readings)
 
--- values written over nine zeros
-abbrev pub overZeros : List ℕ → List ℕ
-overZeros new = over new (replicate 9 0)
+-- nine zeros each to write over
+abbrev pub nineZeros : Told
+nineZeros = told (replicate 9 0) (replicate 9 0) (replicate 9 0)
 
 -- whether there are letters for its steps, the refusal number of the run, and what it writes: by the rules, and as expected
-abbrev pub ruled : Listed → Bool × ℕ × List ℕ × List ℕ
+abbrev pub ruled : Listed → Bool × ℕ × Told
 ruled x = (
   leb (x .steps) (length (x .letters)),
-  runRefusal ToBench K (lettersIn x) (length (x .numbers)) (length (x .readings)) 9 9,
-  overZeros (stepRefusals K [] (stepsIn x)),
-  overZeros (map orderByte (orders K [] (stepsIn x))),
+  runRefusal ToBench K (lettersIn x) (length (x .numbers)) (length (x .readings)) 9 9 9,
+  toldOver (stepRefusals K [] (stepsIn x)) (orders K [] (stepsIn x)) nineZeros,
 )
 
-abbrev pub expected : Listed → Bool × ℕ × List ℕ × List ℕ
-expected x = (true, 0, x .answers, x .orders)
+abbrev pub expected : Listed → Bool × ℕ × Told
+expected x = (true, 0, told (x .answers) (x .orders) (x .named))
 
 abbrev pub ListsRight : List Listed → Type 0
 ListsRight lists = Same ruled expected lists

@@ -25,8 +25,8 @@ const CHANGES: [Change; 5] = [
     Change(3, 5760, 3, 0, 1),
 ];
 
-// e to j: a list of so many steps under K, the refusal number of each, 0 where it is taken, and the letter of its command, 0 where it gives
-// none. The places past its steps are blank or 0.
+// e to j: a list of so many steps under K, the refusal number of each, 0 where it is taken, the letter of its command, 0 where it gives
+// none, and the train of a lower, 0 for none. The places past its steps are blank or 0.
 struct Listed {
     steps: usize,
     letters: [u8; 9],
@@ -34,6 +34,7 @@ struct Listed {
     readings: [f32; 9],
     answers: [u8; 9],
     orders: [u8; 9],
+    named: [u32; 9],
 }
 
 const LISTS: [Listed; 7] = [
@@ -45,6 +46,7 @@ const LISTS: [Listed; 7] = [
         readings: [0.0, 90.0, 45.0, 0.0, 0.0, 0.0, 0.0, 0.0, 0.0],
         answers: [0, 0, 0, 8, 0, 0, 0, 0, 0],
         orders: [0, b'D', 0, 0, 0, 0, 0, 0, 0],
+        named: [0, 1, 0, 0, 0, 0, 0, 0, 0],
     },
     // f: the same train still coming at 4: clock 11.
     Listed {
@@ -54,6 +56,7 @@ const LISTS: [Listed; 7] = [
         readings: [0.0, 90.0, 45.0, 0.0, 0.0, 0.0, 0.0, 0.0, 0.0],
         answers: [0, 0, 0, 0, 0, 11, 0, 0, 0],
         orders: [0, b'D', 0, 0, 0, 0, 0, 0, 0],
+        named: [0, 1, 0, 0, 0, 0, 0, 0, 0],
     },
     // g: train 0 or 97: 5; train 96 is taken.
     Listed {
@@ -63,6 +66,7 @@ const LISTS: [Listed; 7] = [
         readings: [0.0, 0.0, 0.0, 0.0, 0.0, 0.0, 0.0, 0.0, 0.0],
         answers: [5, 5, 0, 0, 0, 0, 0, 0, 0],
         orders: [0, 0, 0, 0, 0, 0, 0, 0, 0],
+        named: [0, 0, 0, 0, 0, 0, 0, 0, 0],
     },
     // h: command down from 5,760: 2,881 is refused, 13, and 2,880 taken.
     Listed {
@@ -72,6 +76,7 @@ const LISTS: [Listed; 7] = [
         readings: [0.0, 90.0, 45.015625, 45.0, 0.0, 0.0, 0.0, 0.0, 0.0],
         answers: [0, 0, 13, 0, 0, 0, 0, 0, 0],
         orders: [0, b'D', 0, 0, 0, 0, 0, 0, 0],
+        named: [0, 1, 0, 0, 0, 0, 0, 0, 0],
     },
     // i: command down at 0: an angle of 1 is refused, 13.
     Listed {
@@ -81,6 +86,7 @@ const LISTS: [Listed; 7] = [
         readings: [0.0, 90.0, 45.0, 0.0, 0.015625, 0.0, 0.0, 0.0, 0.0],
         answers: [0, 0, 0, 0, 13, 0, 0, 0, 0],
         orders: [0, b'D', 0, 0, 0, 0, 0, 0, 0],
+        named: [0, 1, 0, 0, 0, 0, 0, 0, 0],
     },
     // j: train 1 inside at 4, approach of 2 and then leave of 1: no raise.
     Listed {
@@ -90,6 +96,7 @@ const LISTS: [Listed; 7] = [
         readings: [0.0, 90.0, 45.0, 0.0, 0.0, 0.0, 0.0, 0.0, 0.0],
         answers: [0, 0, 0, 0, 0, 0, 0, 0, 0],
         orders: [0, b'D', 0, 0, 0, 0, 0, 0, 0],
+        named: [0, 1, 0, 0, 0, 0, 0, 0, 0],
     },
     // j, the other order: raise, then lower at 5.
     Listed {
@@ -99,6 +106,7 @@ const LISTS: [Listed; 7] = [
         readings: [0.0, 90.0, 45.0, 0.0, 0.0, 0.0, 0.0, 0.0, 90.0],
         answers: [0, 0, 0, 0, 0, 0, 0, 0, 0],
         orders: [0, b'D', 0, 0, 0, 0, b'U', 0, b'D'],
+        named: [0, 1, 0, 0, 0, 0, 0, 0, 2],
     },
 ];
 
@@ -115,7 +123,16 @@ fn check_settings(falls: [Fall; 5], changes: [Change; 5])
     }
 }
 
-// A run of the list under K writes its numbers and its commands.
+// The trains that a run wrote are those expected.
+fn check_trains(named: [u32; 9], trains: [u32; 9])
+    requires { ⌜ named ≡ trains ⌝ }
+{
+    for i in 0..9 {
+        check::expect(named[i] == trains[i]);
+    }
+}
+
+// A run of the list under K writes its numbers, its commands and the trains of its lowers.
 fn check_list(x: Listed)
     requires { ⌜ ruled x ≡ expected x ⌝ }
 {
@@ -125,6 +142,7 @@ fn check_list(x: Listed)
     let readings = x.readings;
     let mut answers = [0u8; 9];
     let mut orders = [0u8; 9];
+    let mut named = [0u32; 9];
     runs::run(
         worked::settings_k(),
         &letters[..n],
@@ -132,9 +150,11 @@ fn check_list(x: Listed)
         &readings,
         &mut answers,
         &mut orders,
+        &mut named,
     );
     let answered = check::same(&answers, &x.answers);
     check::expect(answered & check::same(&orders, &x.orders));
+    check_trains(named, x.named);
 }
 
 // Each list of the table.

@@ -1,8 +1,9 @@
 -- `starred::check_list`: what `run` writes is what the rules give, and so what is expected. Assumes nothing.
 use native.Mathlib.Omega.{arith}
-use mathlib.Core.Path.{_∙_, ap}
+use mathlib.Core.Path.{ap}
 use lib.ListN.{length-take}
-use Rattle.starred.proofs.Laws.{letters-fit}
+use Rattle.runs.specs.Run.{Told}
+use Rattle.starred.proofs.Laws.{letters-fit, run-right}
 use borrow.Author.Needs.{needs}
 use Rattle.starred.proofs.check_list.Statement.{statement}
 use Rattle.starred.proofs.check_list.Tie as tie
@@ -28,6 +29,9 @@ slice-aggregate-run-4 c = search needs
 slice-aggregate-run-5 : tie.Need-slice-aggregate-run-5
 slice-aggregate-run-5 c = search needs
 
+slice-aggregate-run-6 : tie.Need-slice-aggregate-run-6
+slice-aggregate-run-6 c = search needs
+
 run-requires : tie.Need-run-requires
 run-requires c κs = search needs
 
@@ -45,10 +49,15 @@ same-requires-2 c κs = search needs
 
 expect-requires : tie.Need-expect-requires
 expect-requires c κs =
-    let k = c .before .before .before .before .before .before .before .before .before .before .before .before in
-    let right = k .before .before .before .before .before .before .before .before .before .before .pre in
-    let ran = rw (k .before .before .before .before .before .before .settings-k .ensures) at (k .run .ensures) in
-    rw (c .before .before .before .before .before .same .ensures .1 (ran .answered ∙ rw (ap (λ r. r .1) right) (ap (λ r. r .2) right)), c .same2 .ensures .1 (ran .ordered ∙ rw (ap (λ r. r .1) right) (ap (λ r. r .3) right)))
+    let k = c .before .before .before .before .before .before .before .before .before .before .before .before .before in
+    let w = run-right (k .before .before .before .before .before .before .before .before .before .before .before .args .t1) (k .before .before .before .before .before .before .before .before .before .before .before .pre) (rw (k .before .before .before .before .before .before .before .settings-k .ensures) at (k .run .ensures)) in
+    rw (c .before .before .before .before .before .same .ensures .1 (ap (λ (t : Told). t .answers) w), c .same2 .ensures .1 (ap (λ (t : Told). t .orders) w))
+
+check-trains-requires : tie.Need-check-trains-requires
+check-trains-requires c κs =
+    let k = c .before .before .before .before .before .before .before .before .before .before .before .before .before .before .before in
+    let w = run-right (k .before .before .before .before .before .before .before .before .before .before .before .args .t1) (k .before .before .before .before .before .before .before .before .before .before .before .pre) (rw (k .before .before .before .before .before .before .before .settings-k .ensures) at (k .run .ensures)) in
+    ap (λ (t : Told). t .named) w
 
 returns : tie.Need-returns
 returns c = search needs
@@ -64,10 +73,12 @@ check-list-spec =
     slice-aggregate-run-3
     slice-aggregate-run-4
     slice-aggregate-run-5
+    slice-aggregate-run-6
     run-requires
     slice-aggregate-same
     same-requires
     slice-aggregate-same-2
     same-requires-2
     expect-requires
+    check-trains-requires
     returns)

@@ -6,7 +6,8 @@ use Rattle.settings.specs.Settings.{ticksFor, inRange, tooSoon, spread, setting
 use Rattle.arm.specs.Shown.{readingOf}
 use Rattle.arm.specs.Movement.{mayMove}
 use Rattle.trains.specs.Trains.{isTrain}
-use Rattle.runs.specs.History.{dueAt, latestAt, someTrain, command, stepRefusal, stepRefusals, orders}
+use Rattle.trains.specs.First.{earlierOf}
+use Rattle.runs.specs.History.{dueAt, latestAt, someTrain, dueOf, soonest, command, stepRefusal, stepRefusals, orders}
 use Rattle.runs.specs.Letters.{letterOf}
 use Rattle.runs.specs.Run.{allOf, stepsOf, runRefusal}
 use borrow.Author.Needs.{needs}
@@ -18,7 +19,7 @@ unfolding ticksFor inRange tooSoon spread settingsRefusal settings.verdict
 check-settings-requires c κs = (record { whole = refl }, record { whole = refl })
 
 check-lists-requires : tie.Need-check-lists-requires
-unfolding runRefusal settingsRefusal inRange tooSoon spread ticksFor allOf letterOf stepsOf stepRefusals orders stepRefusal command someTrain dueAt latestAt isTrain readingOf mayMove ofBits
+unfolding runRefusal settingsRefusal inRange tooSoon spread ticksFor allOf letterOf stepsOf stepRefusals orders stepRefusal command someTrain dueOf soonest earlierOf dueAt latestAt isTrain readingOf mayMove ofBits
 check-lists-requires c κs = record { whole = refl }
 
 returns : tie.Need-returns
