@@ -1,6 +1,7 @@
 // The bench cases a to m of document 01 through the built functions, one line each; what the bench shows along its sample run, and a cabinet
-// alone; trains of four kinds; and its sample record with the report.
-// A step shows 0 (taken with no command), D or U (taken, with that command) or its refusal number; `second/expected` has the same lines.
+// alone; trains of four kinds; the train of a lower; and its sample record with the report.
+// A step shows 0 (taken with no command), D with its train or U (taken, with that command) or its refusal number; `second/expected` has the
+// same lines.
 use arm::Gate;
 use arm::Reading;
 use bench::Bench;
@@ -30,17 +31,24 @@ fn show_verdict(v: Verdict) {
     show(settings::number(v) as u64);
 }
 
-// A step by its refusal number and the letter of its command.
-fn show_step(number: u8, letter: u8) {
+// A step by its refusal number, the letter of its command and the train of a lower.
+fn show_step(number: u8, letter: u8, train: u32) {
     if letter == 0 {
         show(number as u64);
     } else {
         print(&[b' ', letter]);
     }
+    if 0 < train {
+        io::print_decimal(STDOUT_FILENO, train as u64);
+    }
 }
 
 fn show_answer(a: Answer) {
-    show_step(runs::number_byte(a), runs::order_byte(a));
+    show_step(
+        runs::number_byte(a),
+        runs::order_byte(a),
+        runs::order_train(a),
+    );
 }
 
 // What a step answered, and the bench after it.
@@ -330,10 +338,10 @@ fn mixed(earliest: u32, latest: u32) -> Settings {
 }
 
 // What each of the first n steps answered.
-fn show_steps(n: usize, answers: [u8; 17], orders: [u8; 17]) {
+fn show_steps(n: usize, answers: [u8; 17], orders: [u8; 17], named: [u32; 17]) {
     for i in 0..17 {
         if i < n {
-            show_step(answers[i], orders[i]);
+            show_step(answers[i], orders[i], named[i]);
         }
     }
     print(b"\n");
@@ -343,6 +351,7 @@ fn show_steps(n: usize, answers: [u8; 17], orders: [u8; 17]) {
 fn show_list(letters: &[u8], numbers: &[u32], readings: &[f32]) {
     let mut answers = [0u8; 17];
     let mut orders = [0u8; 17];
+    let mut named = [0u32; 17];
     runs::run(
         mixed(5, 11),
         letters,
@@ -350,8 +359,9 @@ fn show_list(letters: &[u8], numbers: &[u32], readings: &[f32]) {
         readings,
         &mut answers,
         &mut orders,
+        &mut named,
     );
-    show_steps(letters.len(), answers, orders);
+    show_steps(letters.len(), answers, orders, named);
 }
 
 // Four trains, one of each kind, come together: each may go inside from its own due instant on.
@@ -433,14 +443,46 @@ fn kinds_alone() {
     print(b"alone");
     let mut answers = [0u8; 17];
     let mut orders = [0u8; 17];
+    let mut named = [0u32; 17];
     alone::run(
         mixed(5, 11),
         b"ATBTLTT",
         &[1u32, 0, 2, 0, 2, 0, 0],
         &mut answers,
         &mut orders,
+        &mut named,
     );
-    show_steps(7, answers, orders);
+    show_steps(7, answers, orders, named);
+}
+
+// ---- the train of a lower
+
+// Two of kind 1 that are due together: the lower number. A train of a faster kind that approaches later and is due sooner.
+fn named_first() {
+    print(b"equal");
+    show_list(
+        b"AATTTT",
+        &[7u32, 3, 0, 0, 0, 0],
+        &[0.0f32, 0.0, 90.0, 90.0, 90.0, 90.0],
+    );
+    print(b"sooner");
+    show_list(b"ATBT", &[5u32, 0, 9, 0], &[0.0f32, 90.0, 0.0, 90.0]);
+}
+
+// Two kinds that approach apart and are due in the same tick: the lower number. One due first while another has the lower number.
+fn named_of_two() {
+    print(b"apart");
+    show_list(
+        b"ATTETT",
+        &[6u32, 0, 0, 4, 0, 0],
+        &[0.0f32, 90.0, 90.0, 0.0, 90.0, 90.0],
+    );
+    print(b"later");
+    show_list(
+        b"ATATTT",
+        &[8u32, 0, 2, 0, 0, 0],
+        &[0.0f32, 90.0, 0.0, 90.0, 90.0, 90.0],
+    );
 }
 
 // ---- the sample record
@@ -448,6 +490,8 @@ fn kinds_alone() {
 // The sample, whole, and its report: 25 lines of 15 bytes, and 3 of 19.
 fn sample() {
     let mut answers = [0u8; 8];
+    let mut orders = [0u8; 8];
+    let mut named = [0u32; 8];
     let mut text = [0u8; 375];
     let mut lines = [0u8; 57];
     recording::record_run(
@@ -456,6 +500,8 @@ fn sample() {
         &[1u32, 0, 0, 0, 1, 0, 1, 0],
         &[0.0f32, 90.0, 45.0, 0.0, 0.0, 0.0, 0.0, 90.0],
         &mut answers,
+        &mut orders,
+        &mut named,
         &mut text,
     );
     report::report(&text, &mut lines);
@@ -482,5 +528,7 @@ fn main() {
     fourth_kind();
     latest_first();
     kinds_alone();
+    named_first();
+    named_of_two();
     sample();
 }

@@ -181,7 +181,10 @@ fn recorder_cases(sample: &[u8]) {
         8,
         b"1 A  97",
     );
-    changed(b"D line with number 1", sample, 17, 14, b"1");
+    changed(b"D line with number 0", sample, 17, 14, b"0");
+    changed(b"D line with train 2", sample, 17, 14, b"2");
+    changed(b"D line with train 11", sample, 17, 13, b"11");
+    changed(b"U line with train 1", sample, 23, 14, b"1");
     changed(b"U line for the D line", sample, 17, 10, b"U");
     changed(b"U line that is not due", sample, 20, 10, b"U   0");
     without(b"D line missing", sample, 17, 18);

@@ -5,10 +5,10 @@ use Rattle.cases.proofs.show_steps.Statement.{statement}
 use Rattle.cases.proofs.show_steps.Tie as tie
 
 abbrev Inv-loop : tie.InvT-loop
-Inv-loop n answers orders i₀ t7 i = i ≤ 17
+Inv-loop n answers orders named i₀ t8 i = i ≤ 17
 
 abbrev μ-loop : tie.MeasureT-loop
-μ-loop n answers orders i₀ t7 i = 17 - i
+μ-loop n answers orders named i₀ t8 i = 17 - i
 
 loop-holds : tie.Need-loop-holds Inv-loop μ-loop
 loop-holds c = search needs
@@ -18,6 +18,12 @@ array-read-show-step c = search needs
 
 array-read-show-step-2 : tie.Need-array-read-show-step-2 Inv-loop μ-loop
 array-read-show-step-2 c = search needs
+
+mul-show-step : tie.Need-mul-show-step Inv-loop μ-loop
+mul-show-step c = search needs
+
+array-read-show-step-3 : tie.Need-array-read-show-step-3 Inv-loop μ-loop
+array-read-show-step-3 c = search needs
 
 show-step-requires : tie.Need-show-step-requires Inv-loop μ-loop
 show-step-requires c κs = search needs
@@ -49,6 +55,8 @@ show-steps-spec =
     loop-holds
     array-read-show-step
     array-read-show-step-2
+    mul-show-step
+    array-read-show-step-3
     show-step-requires
     add-i
     loop-less
