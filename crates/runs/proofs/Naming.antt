@@ -2,9 +2,8 @@
 use Prim.Native.Nat.{ℕ, suc, _≤_}
 use native.Mathlib.Omega.{arith}
 use mathlib.Core.Path.{_≡_, refl, sym, _∙_, ap}
-use mathlib.Core.Bool.{Bool, true, false, cond, false≢true}
+use mathlib.Core.Bool.{true, false, false≢true}
 use mathlib.Core.List.{List, []}
-use lib.Dec.{leb}
 use lib.ListN.{take}
 use borrow.Author.Tests.{leb-true}
 use Rattle.settings.specs.declared.Settings.{Settings}
@@ -19,7 +18,6 @@ use Rattle.cabinet.specs.declared.Order.the-variants.{Lower}
 use Rattle.bench.specs.Bench.{freshBench}
 use Rattle.runs.specs.declared.Step.{Step}
 use Rattle.runs.specs.History.{History, soonest, lowering, command, given, orderBetween, moment}
-use Rattle.runs.specs.Steps.{benchAfter}
 use Rattle.runs.specs.Letters.{orderTrain}
 use Rattle.runs.specs.Match.{Valid, Match}
 use Rattle.runs.specs.Soonest.{builtAt, SoonestNamed, SoonestAlways}
