@@ -2,7 +2,7 @@
 use Prim.Native.Nat.{ℕ, _+_}
 use native.Mathlib.Omega.{arith}
 use mathlib.Core.Path.{_≡_, refl, sym, _∙_, ap, subst}
-use mathlib.Core.Bool.{Bool, true, false, not, _&&_, _||_, cond, false≢true}
+use mathlib.Core.Bool.{Bool, true, false, not, _&&_, _||_, cond, true≢false, false≢true}
 use mathlib.Core.List.{List, [], _∷_}
 use mathlib.Core.Logic.{_⊎_, inl, inr}
 use lib.Dec.{leb, eqb}
@@ -115,9 +115,14 @@ module _ (s : Settings) (h : History) where
     first = λ n t m e a. before-says n t m (dueAt s h m) (soonest-is .least n t m (dueAt s h m) e (due-present m a)) .0;
     lowest = λ n t m e a d. before-says n t m (dueAt s h m) (soonest-is .least n t m (dueAt s h m) e (due-present m a)) .1 (sym d);
     nobody = λ e m. none m (soonest-is .none e m) (isAway (place m h)) refl;
+    empty = λ all. only all (soonest s h) refl;
     due = soonest-due;
   }
     where
+      only : ((m : ℕ) → isAway (place m h) ≡ true) → (f : First) → soonest s h ≡ f → f ≡ Nobody
+      only all Nobody e = refl
+      only all (Train n t) e = absurd (true≢false (sym (all n) ∙ due-says n n t (soonest-is .one n t e) .1))
+
       none : (m : ℕ) → dueOf s h m ≡ Nobody → (b : Bool) → isAway (place m h) ≡ b → b ≡ true
       none m e true a = refl
       none m e false a = let z = sym e ∙ due-present m a in absurd (let y : _≡_ {A = ℕ} 0 1 = cc in omega arith)

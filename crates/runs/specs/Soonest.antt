@@ -27,8 +27,9 @@ pub record Soonest (s : Settings) (h : History) : Type 0 where
   pub first : (n t m : ℕ) → soonest s h ≡ Train n t → isAway (place m h) ≡ false → t ≤ dueAt s h m
   -- of those due with it none has a lower number
   pub lowest : (n t m : ℕ) → soonest s h ≡ Train n t → isAway (place m h) ≡ false → dueAt s h m ≡ t → n ≤ m
-  -- it is nobody only where no train is present
+  -- it is nobody exactly if no train is present
   pub nobody : soonest s h ≡ Nobody → (m : ℕ) → isAway (place m h) ≡ true
+  pub empty : ((m : ℕ) → isAway (place m h) ≡ true) → soonest s h ≡ Nobody
   -- some train is due by t exactly if the soonest is
   pub due : (t : ℕ) → someDue s h t ≡ reachedBy t (soonest s h)
 
