@@ -4,23 +4,26 @@
 //   rustc -O --edition 2021 tests/compare.rs -L target/staticlib -l static=exports -o target/compare && target/compare
 //
 // Random lists of steps (refused ones among them; sensible and absurd readings, as f32 bit patterns; 1 to 96 trains; settings
-// that are refused; four kinds, alike or each with its own times) through `weqhaso_run`: every answer, every command, and the
-// places beyond the list; also with too few settings and with values behind them. The same lists through `weqhaso_state`, with
-// enough places and too few: also the bench after the list. The same lists through `weqhaso_look`, in the same way: the pose
-// by its bits, the gate and the trains present. The same lists with two neighbours swapped that are accepted, about different
-// trains, no clock steps, and not an approach and a leave: all but the place of a command between the two stays. The same
-// lists through `weqhaso_record`, into records just long enough, one byte shorter, longer and of any length: every answer,
-// every byte, and how many are used. Records of the accepted steps, whole and damaged, through `weqhaso_read`: number and
-// line; and through `weqhaso_report`, into buffers just long enough, one byte shorter, and longer: every byte, and how many
-// are used. Long records about the longest text that is reported, 65,535 bytes. The stretches of these records and of some
-// that are several times as long, one by one through `weqhaso_start`, `weqhaso_next_lowered` and `weqhaso_next_occupied`, and
-// the instants of `weqhaso_below`. Lists of what a cabinet alone hears through `weqhaso_cabinet`: every answer, every command,
-// and the places beyond the list. Ten million clock steps, up to the last instant, of the bench and of a cabinet alone. A
-// mismatch prints the input that shows it.
+// that are refused; four kinds, alike or each with its own times) through `weqhaso_run`: every answer, every command, the train
+// that a lower names (0 beside all other steps), and the places beyond the list; also with too few settings and with values behind
+// them. The same lists through `weqhaso_state`, with enough places and too few: also the bench after the list. The same lists
+// through `weqhaso_look`, in the same way: the pose by its bits, the gate and the trains present. The same lists with two
+// neighbours swapped that are accepted, about different trains, no clock steps, and not an approach and a leave: all but the place
+// of a command between the two stays, trains of lowers too. The same lists through `weqhaso_record`, into records just long enough,
+// one byte shorter, longer, of any length, and with space for a step that lowers but not for its D line: every answer, every
+// command and its train, every byte, and how many are used. Records of the accepted steps, whole, damaged, and with another number
+// on a D or U line, through `weqhaso_read`: number and line; and through `weqhaso_report`, into buffers just long enough, one byte
+// shorter, and longer: every byte, and how many are used. Long records about the longest text that is reported, 65,535 bytes. The
+// stretches of these records and of some that are several times as long, one by one through `weqhaso_start`,
+// `weqhaso_next_lowered` and `weqhaso_next_occupied`, and the instants of `weqhaso_below`. Lists of what a cabinet alone hears
+// through `weqhaso_cabinet`: every answer, every command and its train, and the places beyond the list. Ten million clock steps, up
+// to the last instant, of the bench and of a cabinet alone. A mismatch prints the input that shows it.
 //
 // The library keeps two trains beside its table, the soonest due one and the coming one that is first at its latest; the second
 // program looks through the whole table each time. So there are also lists made for these two trains to change hands at nearly
-// every step of a train, through all these functions, with a count of how often they do.
+// every step of a train, through all these functions, with a count of how often they do. A lower names the soonest one: so some of
+// these lists let trains of several kinds come due in one tick, and it is counted how often a lower named one of several due in its
+// tick, and one that another look would not have named.
 
 #[allow(dead_code)]
 #[path = "../second/second.rs"]
@@ -28,8 +31,8 @@ mod second;
 
 use second::{
     angles_of, check, lowered_runs, occupied_stretches, read, record_line, record_of, report,
-    report_into, ticks_for, Bench, Cabinet, Gate, Kind, Recorder, Standing, Stretch, FULL, K,
-    KINDS, LAST_INSTANT, LAST_LINE, LINE_BYTES, LONGEST_TEXT, SETTINGS,
+    report_into, ticks_for, Bench, Cabinet, Command, Gate, Kind, Recorder, Standing, Stretch,
+    FIRST_STEP_LINE, FULL, K, KINDS, LAST_INSTANT, LAST_LINE, LINE_BYTES, LONGEST_TEXT, SETTINGS,
 };
 
 extern "C" {
@@ -46,6 +49,8 @@ extern "C" {
         answers_len: usize,
         orders: *mut u8,
         orders_len: usize,
+        named: *mut u32,
+        named_len: usize,
     ) -> u8;
     fn weqhaso_state(
         values: *const u32,
@@ -60,6 +65,8 @@ extern "C" {
         answers_len: usize,
         orders: *mut u8,
         orders_len: usize,
+        named: *mut u32,
+        named_len: usize,
         state: *mut u32,
         state_len: usize,
     ) -> u8;
@@ -76,6 +83,8 @@ extern "C" {
         answers_len: usize,
         orders: *mut u8,
         orders_len: usize,
+        named: *mut u32,
+        named_len: usize,
         pose: *mut f32,
         pose_len: usize,
         look: *mut u32,
@@ -92,6 +101,8 @@ extern "C" {
         answers_len: usize,
         orders: *mut u8,
         orders_len: usize,
+        named: *mut u32,
+        named_len: usize,
     ) -> u8;
     fn weqhaso_record(
         values: *const u32,
@@ -104,6 +115,10 @@ extern "C" {
         readings_len: usize,
         answers: *mut u8,
         answers_len: usize,
+        orders: *mut u8,
+        orders_len: usize,
+        named: *mut u32,
+        named_len: usize,
         out: *mut u8,
         out_len: usize,
     ) -> u64;
@@ -133,9 +148,11 @@ const LONG_TEXTS: u32 = 60;
 const LONGER_TEXTS: u32 = 40;
 const HAND_LISTS: u32 = 1_500;
 const FULL_YARDS: u32 = 100;
+const MEETINGS: u32 = 300;
 const HEARD_LISTS: u32 = 3_000;
 const WHOLE: u64 = 99;
 const UNTOUCHED: u8 = 99;
+const UNTOUCHED_TRAIN: u32 = 99_999;
 // The numbers of a bench.
 const STATE: usize = 4 + 3 * 96;
 
@@ -240,14 +257,53 @@ fn reading(r: &mut Random, b: &Bench) -> f32 {
     }
 }
 
+// What stands beside the steps of a list: each one's refusal number, the letter of its command, and the train of a lower.
+#[derive(Clone, Default, Debug, PartialEq)]
+struct Told {
+    answers: Vec<u8>,
+    orders: Vec<u8>,
+    named: Vec<u32>,
+}
+
+impl Told {
+    fn untouched(places: [usize; 3]) -> Told {
+        Told {
+            answers: vec![UNTOUCHED; places[0]],
+            orders: vec![UNTOUCHED; places[1]],
+            named: vec![UNTOUCHED_TRAIN; places[2]],
+        }
+    }
+
+    fn add(&mut self, answer: Result<Command, u8>) {
+        let command = answer.ok().and_then(Command::letter_and_number);
+        self.answers.push(answer.err().unwrap_or(0));
+        self.orders
+            .push(command.map_or(0, |(letter, _)| letter as u8));
+        self.named.push(command.map_or(0, |(_, train)| train));
+    }
+
+    // Written into the first places.
+    fn write(&mut self, told: &Told) {
+        let n = told.answers.len();
+        self.answers[..n].copy_from_slice(&told.answers);
+        self.orders[..n].copy_from_slice(&told.orders);
+        self.named[..n].copy_from_slice(&told.named);
+    }
+
+    // The commands with their trains.
+    fn commands(&self) -> Vec<(u8, u32)> {
+        let orders = self.orders.iter().copied();
+        orders.zip(self.named.iter().copied()).collect()
+    }
+}
+
 // A list of steps with what the second program answers to each.
 #[derive(Default, Debug)]
 struct List {
     letters: Vec<u8>,
     numbers: Vec<u32>,
     readings: Vec<f32>,
-    answers: Vec<u8>,
-    orders: Vec<u8>,
+    told: Told,
     accepted: Vec<(char, u32)>,
     state: Vec<u32>,
     // the pose's two numbers by their bits
@@ -262,14 +318,12 @@ impl List {
         number: u32,
         reading: f32,
         held: u32,
-        answer: Result<char, u8>,
+        answer: Result<Command, u8>,
     ) {
         self.letters.push(letter as u8);
         self.numbers.push(number);
         self.readings.push(reading);
-        self.answers.push(answer.err().unwrap_or(0));
-        self.orders
-            .push(answer.ok().filter(|c| *c != ' ').map_or(0, |c| c as u8));
+        self.told.add(answer);
         if answer.is_ok() {
             self.accepted.push((letter, held));
         }
@@ -327,7 +381,7 @@ fn state_of(b: &Bench) -> Vec<u32> {
 fn steps(r: &mut Random, s: &[u32; SETTINGS], least: u64) -> List {
     let mut list = List::default();
     let Ok(mut b) = Bench::new(s) else {
-        list.add('A', 1, 0.0, 1, Ok(' '));
+        list.add('A', 1, 0.0, 1, Ok(Command::Nothing));
         return list;
     };
     let many = r.one_of(&[1, 2, 3, 8, 96]);
@@ -370,7 +424,7 @@ fn steps(r: &mut Random, s: &[u32; SETTINGS], least: u64) -> List {
 }
 
 // The library's run of a list.
-fn run(s: &[u32], list: &List, answers: &mut [u8], orders: &mut [u8]) -> u8 {
+fn run(s: &[u32], list: &List, told: &mut Told) -> u8 {
     unsafe {
         weqhaso_run(
             s.as_ptr(),
@@ -381,10 +435,12 @@ fn run(s: &[u32], list: &List, answers: &mut [u8], orders: &mut [u8]) -> u8 {
             list.numbers.len(),
             list.readings.as_ptr(),
             list.readings.len(),
-            answers.as_mut_ptr(),
-            answers.len(),
-            orders.as_mut_ptr(),
-            orders.len(),
+            told.answers.as_mut_ptr(),
+            told.answers.len(),
+            told.orders.as_mut_ptr(),
+            told.orders.len(),
+            told.named.as_mut_ptr(),
+            told.named.len(),
         )
     }
 }
@@ -392,18 +448,18 @@ fn run(s: &[u32], list: &List, answers: &mut [u8], orders: &mut [u8]) -> u8 {
 // Whether the library answers the list as the second program does, and leaves the places beyond it.
 fn same_run(r: &mut Random, s: &[u32; SETTINGS], list: &List) -> bool {
     let number = check(s);
-    let n = list.letters.len();
-    let len = n + r.below(3) as usize;
-    let (mut answers, mut orders) = (vec![UNTOUCHED; len], vec![UNTOUCHED; len]);
-    let (mut want_answers, mut want_orders) = (answers.clone(), orders.clone());
+    let len = list.letters.len() + r.below(3) as usize;
+    let mut told = Told::untouched([len; 3]);
+    let mut want = told.clone();
     if number == 0 {
-        want_answers[..n].copy_from_slice(&list.answers);
-        want_orders[..n].copy_from_slice(&list.orders);
+        want.write(&list.told);
     }
-    let got = run(s, list, &mut answers, &mut orders);
-    let same = got == number && answers == want_answers && orders == want_orders;
+    let got = run(s, list, &mut told);
+    let same = got == number && told == want;
     if !same {
-        println!("settings {s:?}: {number} wanted, {got} got\n{list:?}\n{want_answers:?} wanted\n{answers:?} got\n{want_orders:?} wanted\n{orders:?} got");
+        println!(
+            "settings {s:?}: {number} wanted, {got} got\n{list:?}\n{want:?} wanted\n{told:?} got"
+        );
     }
     same
 }
@@ -414,30 +470,28 @@ fn same_values(r: &mut Random, s: &[u32; SETTINGS], list: &List) -> bool {
     let mut given = s.to_vec();
     given.extend((0..3).map(|_| r.next() as u32));
     (0..=given.len()).all(|many| {
-        let (mut answers, mut orders) = (vec![UNTOUCHED; n], vec![UNTOUCHED; n]);
-        let got = run(&given[..many], list, &mut answers, &mut orders);
+        let left = Told::untouched([n; 3]);
+        let mut told = left.clone();
+        let got = run(&given[..many], list, &mut told);
         let want = if many < SETTINGS { 1 } else { check(s) };
-        let written = want == 0 && answers == list.answers && orders == list.orders;
-        let left = answers.iter().chain(&orders).all(|b| *b == UNTOUCHED);
-        let same = got == want && if want == 0 { written } else { left };
+        let want_told = if want == 0 { &list.told } else { &left };
+        let same = got == want && told == *want_told;
         if !same {
-            println!("{many} of the settings {given:?}: {want} wanted, {got} got\n{list:?}");
+            println!("{many} of the settings {given:?}: {want} wanted, {got} got\n{list:?}\n{told:?} got");
         }
         same
     })
 }
 
-// What is lent to a run of a list, and what is wanted of it. Spoiled 0, a letter is foreign to the list; 1 to 4, a slice is one place
+// What is lent to a run of a list, and what is wanted of it. Spoiled 0, a letter is foreign to the list; 1 to 5, a slice is one place
 // too short; without space for what is written after the run, 14.
 struct Lent {
     letters: Vec<u8>,
     numbers: Vec<u32>,
     readings: Vec<f32>,
-    answers: Vec<u8>,
-    orders: Vec<u8>,
+    told: Told,
     want: u8,
-    want_answers: Vec<u8>,
-    want_orders: Vec<u8>,
+    want_told: Told,
 }
 
 impl Lent {
@@ -455,41 +509,35 @@ impl Lent {
         if spoiled == 0 {
             letters[r.below(n as u64) as usize] = r.one_of(foreign);
         }
-        let answers = vec![UNTOUCHED; short(3) + r.below(3) as usize * (spoiled > 3) as usize];
-        let orders = vec![UNTOUCHED; short(4) + r.below(3) as usize * (spoiled > 4) as usize];
+        let places = [3, 4, 5].map(|k| short(k) + r.below(3) as usize * (spoiled > k) as usize);
+        let told = Told::untouched(places);
         let want = match (check(s), spoiled) {
             (0, 0) => 15,
-            (0, 1..=4) => 14,
+            (0, 1..=5) => 14,
             (0, _) if !space => 14,
             (k, _) => k,
         };
-        let (mut want_answers, mut want_orders) = (answers.clone(), orders.clone());
+        let mut want_told = told.clone();
         if want == 0 {
-            want_answers[..n].copy_from_slice(&list.answers);
-            want_orders[..n].copy_from_slice(&list.orders);
+            want_told.write(&list.told);
         }
         Lent {
             letters,
             numbers: list.numbers[..short(1)].to_vec(),
             readings: list.readings[..short(2)].to_vec(),
-            answers,
-            orders,
+            told,
             want,
-            want_answers,
-            want_orders,
+            want_told,
         }
     }
 
-    // Whether the number, the answers and the commands are those wanted.
+    // Whether the number, the answers, the commands and their trains are those wanted.
     fn same(&self, s: &[u32; SETTINGS], list: &List, got: u8) -> bool {
-        let same = got == self.want
-            && self.answers == self.want_answers
-            && self.orders == self.want_orders;
+        let same = got == self.want && self.told == self.want_told;
         if !same {
             println!("settings {s:?}: {} wanted, {got} got", self.want);
             println!("{:?} for {list:?}", self.letters);
-            println!("{:?} wanted\n{:?} got", self.want_answers, self.answers);
-            println!("{:?} wanted\n{:?} got", self.want_orders, self.orders);
+            println!("{:?} wanted\n{:?} got", self.want_told, self.told);
         }
         same
     }
@@ -506,10 +554,12 @@ impl Lent {
                 self.numbers.len(),
                 self.readings.as_ptr(),
                 self.readings.len(),
-                self.answers.as_mut_ptr(),
-                self.answers.len(),
-                self.orders.as_mut_ptr(),
-                self.orders.len(),
+                self.told.answers.as_mut_ptr(),
+                self.told.answers.len(),
+                self.told.orders.as_mut_ptr(),
+                self.told.orders.len(),
+                self.told.named.as_mut_ptr(),
+                self.told.named.len(),
                 state.as_mut_ptr(),
                 state.len(),
             )
@@ -528,10 +578,12 @@ impl Lent {
                 self.numbers.len(),
                 self.readings.as_ptr(),
                 self.readings.len(),
-                self.answers.as_mut_ptr(),
-                self.answers.len(),
-                self.orders.as_mut_ptr(),
-                self.orders.len(),
+                self.told.answers.as_mut_ptr(),
+                self.told.answers.len(),
+                self.told.orders.as_mut_ptr(),
+                self.told.orders.len(),
+                self.told.named.as_mut_ptr(),
+                self.told.named.len(),
                 pose.as_mut_ptr(),
                 pose.len(),
                 look.as_mut_ptr(),
@@ -545,7 +597,7 @@ impl Lent {
 fn hearing(r: &mut Random, s: &[u32; SETTINGS]) -> List {
     let mut list = List::default();
     let Ok(mut c) = Cabinet::new(s) else {
-        list.add('T', 0, 0.0, 0, Ok(' '));
+        list.add('T', 0, 0.0, 0, Ok(Command::Nothing));
         return list;
     };
     let many = r.one_of(&[1, 2, 3, 8, 96]);
@@ -578,13 +630,7 @@ fn hearing(r: &mut Random, s: &[u32; SETTINGS]) -> List {
 }
 
 // The library's cabinet alone, taken through a list.
-fn run_cabinet(
-    s: &[u32; SETTINGS],
-    letters: &[u8],
-    numbers: &[u32],
-    answers: &mut [u8],
-    orders: &mut [u8],
-) -> u8 {
+fn run_cabinet(s: &[u32; SETTINGS], letters: &[u8], numbers: &[u32], told: &mut Told) -> u8 {
     unsafe {
         weqhaso_cabinet(
             s.as_ptr(),
@@ -593,10 +639,12 @@ fn run_cabinet(
             letters.len(),
             numbers.as_ptr(),
             numbers.len(),
-            answers.as_mut_ptr(),
-            answers.len(),
-            orders.as_mut_ptr(),
-            orders.len(),
+            told.answers.as_mut_ptr(),
+            told.answers.len(),
+            told.orders.as_mut_ptr(),
+            told.orders.len(),
+            told.named.as_mut_ptr(),
+            told.named.len(),
         )
     }
 }
@@ -604,43 +652,112 @@ fn run_cabinet(
 // Whether it answers the list as the second program's does, and leaves all other places.
 fn same_heard(r: &mut Random, s: &[u32; SETTINGS], list: &List, spoiled: u64) -> bool {
     let mut lent = Lent::new(r, s, list, NOT_HEARD, spoiled, true);
-    let got = run_cabinet(
-        s,
-        &lent.letters,
-        &lent.numbers,
-        &mut lent.answers,
-        &mut lent.orders,
-    );
+    let got = run_cabinet(s, &lent.letters, &lent.numbers, &mut lent.told);
     lent.same(s, list, got)
 }
 
-// How often the cabinet alone lowered, raised, and refused with 5, 6 and 9.
+// A present train: its number, the instant of its approach, its due instant and its latest.
+struct Present {
+    train: u32,
+    since: u32,
+    due: u32,
+    latest: u32,
+}
+
+// The present trains after this step of a list, in the order of their approaches.
+fn present_after(s: &[u32; SETTINGS], list: &List, step: usize) -> Vec<Present> {
+    let (mut now, mut present) = (0, Vec::new());
+    for i in (0..=step).filter(|i| list.told.answers[*i] == 0) {
+        let (letter, train) = (list.letters[i] as char, list.numbers[i]);
+        match Kind::from_letter(letter) {
+            Some(kind) => present.push(Present {
+                train,
+                since: now,
+                due: now + kind.earliest(s),
+                latest: now + kind.latest(s),
+            }),
+            None if letter == 'L' => present.retain(|t| t.train != train),
+            None => now += (letter == 'T') as u32,
+        }
+    }
+    present
+}
+
+// Lowers, and how many of them named a train that was due in one tick with another present one; with two or more others; with one
+// that approached at another instant; did not have the lowest number present; was not the last to approach; neither of these; was
+// not the first to approach; was not the first at its latest. So a look that takes the wrong one is seen.
+#[derive(Default, Debug)]
+struct Lowers {
+    all: u32,
+    named: [u32; 8],
+}
+
+impl Lowers {
+    fn count(&mut self, s: &[u32; SETTINGS], list: &List) {
+        for i in (0..list.letters.len()).filter(|i| list.told.orders[*i] == b'D') {
+            self.count_one(&present_after(s, list, i), list.told.named[i]);
+        }
+    }
+
+    fn count_one(&mut self, present: &[Present], named: u32) {
+        let Some(own) = present.iter().find(|t| t.train == named) else {
+            return;
+        };
+        let same_tick = || present.iter().filter(|t| t.due == own.due);
+        let not_lowest = present.iter().any(|t| t.train < named);
+        let not_last = present[present.len() - 1].train != named;
+        let first_latest = present.iter().map(|t| (t.latest, t.train)).min();
+        let is = [
+            same_tick().count() >= 2,
+            same_tick().count() >= 3,
+            same_tick().any(|t| t.since != own.since),
+            not_lowest,
+            not_last,
+            not_lowest && not_last,
+            present[0].train != named,
+            first_latest != Some((own.latest, named)),
+        ];
+        self.all += 1;
+        for (n, is) in self.named.iter_mut().zip(is) {
+            *n += is as u32;
+        }
+    }
+
+    fn check_enough(&self, least: [u32; 8]) {
+        let enough = self.named.iter().zip(least).all(|(n, least)| *n >= least);
+        assert!(enough, "{self:?}, at least {least:?}");
+    }
+}
+
+// How often the cabinet alone lowered, and whom for, raised, and refused with 5, 6 and 9.
 #[derive(Default, Debug)]
 struct Given {
-    lowers: u32,
+    lowers: Lowers,
     raises: u32,
     refused: [u32; 3],
 }
 
 impl Given {
-    fn count(&mut self, list: &List) {
+    fn count(&mut self, s: &[u32; SETTINGS], list: &List) {
         let many = |bytes: &[u8], b: u8| bytes.iter().filter(|x| **x == b).count() as u32;
-        self.lowers += many(&list.orders, b'D');
-        self.raises += many(&list.orders, b'U');
+        self.lowers.count(s, list);
+        self.raises += many(&list.told.orders, b'U');
         for (i, k) in [5, 6, 9].into_iter().enumerate() {
-            self.refused[i] += many(&list.answers, k);
+            self.refused[i] += many(&list.told.answers, k);
         }
     }
 
     fn check_enough(&self) {
-        assert!(self.lowers >= 1_000 && self.raises >= 1_000, "{self:?}");
+        assert!(self.lowers.all >= 1_000 && self.raises >= 1_000, "{self:?}");
         assert!(self.refused.iter().all(|n| *n >= 1_000), "{self:?}");
+        self.lowers
+            .check_enough([450, 70, 25, 300, 700, 150, 400, 150]);
     }
 }
 
 // A list of what a cabinet alone hears, its buffers longer, just long enough, too short, and with a foreign letter: how many differ.
 fn heard_differs(r: &mut Random, s: &[u32; SETTINGS], list: &List) -> u32 {
-    let spoiled = [WHOLE, 5, 0, 1, 3, 4];
+    let spoiled = [WHOLE, WHOLE, 0, 1, 3, 4, 5];
     let differ = spoiled.into_iter().filter(|k| !same_heard(r, s, list, *k));
     differ.count() as u32
 }
@@ -710,46 +827,47 @@ fn same_clock(s: &[u32; SETTINGS]) -> bool {
     let n = LAST_INSTANT as usize + 1;
     let mut b = Bench::new(s).unwrap();
     let mut c = Cabinet::new(s).unwrap();
-    let want: Vec<u8> = (0..n).map(|_| b.clock(90.0).err().unwrap_or(0)).collect();
-    let alone = (0..n).all(|i| c.clock().err().unwrap_or(0) == want[i]);
+    let (mut want, mut alone) = (Told::default(), true);
+    for _ in 0..n {
+        let answer = b.clock(90.0);
+        alone = c.clock() == answer && alone;
+        want.add(answer);
+    }
     let list = List {
         letters: vec![b'T'; n],
         numbers: vec![0; n],
         readings: vec![90.0; n],
         ..List::default()
     };
-    let (mut answers, mut orders) = (vec![UNTOUCHED; n], vec![UNTOUCHED; n]);
-    let got = run(s, &list, &mut answers, &mut orders);
-    let same = |got: u8, answers: &[u8], orders: &[u8]| {
-        got == 0 && want[n - 1] == 10 && answers == want && orders.iter().all(|o| *o == 0)
-    };
-    if !same(got, &answers, &orders) {
-        let at = (0..n).find(|i| answers[*i] != want[*i] || orders[*i] != 0);
+    let mut told = Told::untouched([n; 3]);
+    let got = run(s, &list, &mut told);
+    if got != 0 || want.answers[n - 1] != 10 || told != want {
+        let (are, were) = (told.commands(), want.commands());
+        let at = (0..n).find(|i| told.answers[*i] != want.answers[*i] || are[*i] != were[*i]);
         println!("settings {s:?}: {got} got; of {n} clock steps at 90 degrees the first that differs is {at:?}");
         return false;
     }
-    answers.fill(UNTOUCHED);
-    orders.fill(UNTOUCHED);
-    let got = run_cabinet(s, &list.letters, &list.numbers, &mut answers, &mut orders);
-    let heard = alone && same(got, &answers, &orders);
+    let mut told = Told::untouched([n; 3]);
+    let got = run_cabinet(s, &list.letters, &list.numbers, &mut told);
+    let heard = alone && got == 0 && told == want;
     if !heard {
         println!("settings {s:?}: {got} got of a cabinet alone; its {n} clock steps differ");
     }
     heard
 }
 
-// What the second program records of the list: each step's answer and the bytes used, or the refusal of the start.
-fn recorded(s: &[u32; SETTINGS], list: &List, out: &mut [u8]) -> Result<(Vec<u8>, usize), u8> {
+// What the second program records of the list: each step's answer and command, and the bytes used, or the refusal of the start.
+fn recorded(s: &[u32; SETTINGS], list: &List, out: &mut [u8]) -> Result<(Told, usize), u8> {
     let mut recorder = Recorder::start(s, out)?;
-    let mut answers = Vec::new();
+    let mut told = Told::default();
     for (i, letter) in list.letters.iter().enumerate() {
         let answer = match letter {
             b'T' => recorder.clock(list.readings[i]),
             _ => recorder.step(*letter as char, list.numbers[i]),
         };
-        answers.push(answer.err().unwrap_or(0));
+        told.add(answer);
     }
-    Ok((answers, LINE_BYTES * (recorder.lines.len() + 1)))
+    Ok((told, LINE_BYTES * (recorder.lines.len() + 1)))
 }
 
 // The library's recording of a list.
@@ -758,7 +876,7 @@ fn record(
     letters: &[u8],
     numbers: &[u32],
     readings: &[f32],
-    answers: &mut [u8],
+    told: &mut Told,
     out: &mut [u8],
 ) -> u64 {
     unsafe {
@@ -771,8 +889,12 @@ fn record(
             numbers.len(),
             readings.as_ptr(),
             readings.len(),
-            answers.as_mut_ptr(),
-            answers.len(),
+            told.answers.as_mut_ptr(),
+            told.answers.len(),
+            told.orders.as_mut_ptr(),
+            told.orders.len(),
+            told.named.as_mut_ptr(),
+            told.named.len(),
             out.as_mut_ptr(),
             out.len(),
         )
@@ -791,26 +913,26 @@ fn same_record(r: &mut Random, s: &[u32; SETTINGS], list: &List, bytes: usize) -
     }
     let numbers = &list.numbers[..short(1)];
     let readings = &list.readings[..short(2)];
-    let beyond = r.below(3) as usize * (spoiled > 3) as usize;
-    let mut answers = vec![UNTOUCHED; short(3) + beyond];
+    let places = [3, 4, 5].map(|k| short(k) + r.below(3) as usize * (spoiled > k) as usize);
+    let mut told = Told::untouched(places);
     let mut out: Vec<u8> = (0..bytes).map(|_| r.next() as u8).collect();
 
-    let (mut want_answers, mut want_out) = (answers.clone(), out.clone());
+    let (mut want_told, mut want_out) = (told.clone(), out.clone());
     let whole = match (check(s), spoiled) {
         (0, 0) => Err(15),
-        (0, 1..=3) => Err(14),
+        (0, 1..=5) => Err(14),
         (0, _) => recorded(s, list, &mut want_out),
         (k, _) => Err(k),
     };
     let want = whole.map_or_else(u64::from, |(each, used)| {
-        want_answers[..n].copy_from_slice(&each);
+        want_told.write(&each);
         256 * used as u64
     });
-    let got = record(s, &letters, numbers, readings, &mut answers, &mut out);
-    let same = got == want && answers == want_answers && out == want_out;
+    let got = record(s, &letters, numbers, readings, &mut told, &mut out);
+    let same = got == want && told == want_told && out == want_out;
     if !same {
         println!("settings {s:?}, spoiled {spoiled}, {bytes} bytes: {want} wanted, {got} got");
-        println!("{letters:?}\n{list:?}\n{want_answers:?} wanted\n{answers:?} got");
+        println!("{letters:?}\n{list:?}\n{want_told:?} wanted\n{told:?} got");
         println!("{want_out:?} wanted\n{out:?} got");
     }
     same
@@ -952,6 +1074,91 @@ fn text_differs(q: &mut Random, text: &[u8]) -> u32 {
     differ
 }
 
+// A step of the list that gives this command, and how many lines its record has before the command's.
+fn commanding(r: &mut Random, list: &List, command: u8) -> Option<(usize, usize)> {
+    let told = &list.told;
+    let gives = |i: &usize| told.orders[*i] == command;
+    let steps: Vec<usize> = (0..list.letters.len()).filter(gives).collect();
+    if steps.is_empty() {
+        return None;
+    }
+    let step = r.one_of(&steps);
+    let taken = told.answers[..=step].iter().filter(|a| **a == 0).count();
+    let commands = told.orders[..step].iter().filter(|o| **o != 0).count();
+    Some((step, FIRST_STEP_LINE - 1 + taken + commands))
+}
+
+// Records with another number on a command line, and how often that was 16 at this line: on a D line another present train's, 0, a
+// neighbour of its own, one out of range; on a U line any but 0. Recordings with space for the line of a step that lowers, but too
+// little for its D line too, and how often that was 14.
+#[derive(Default, Debug)]
+struct CommandLines {
+    texts: u32,
+    refused: [u32; 5],
+    records: u32,
+    no_space: u32,
+}
+
+impl CommandLines {
+    // A list under settings that are taken, in these ways: how many differ.
+    fn differ(&mut self, r: &mut Random, s: &[u32; SETTINGS], list: &List) -> u32 {
+        let train = r.below(4) as usize;
+        self.number_differs(r, s, list, train)
+            + self.number_differs(r, s, list, 4)
+            + self.no_space_differs(r, s, list)
+    }
+
+    // The record with a number of this sort on a command line: how many differ.
+    fn number_differs(
+        &mut self,
+        r: &mut Random,
+        s: &[u32; SETTINGS],
+        list: &List,
+        sort: usize,
+    ) -> u32 {
+        let command = if sort < 4 { b'D' } else { b'U' };
+        let Some((step, before)) = commanding(r, list, command) else {
+            return 0;
+        };
+        let own = list.told.named[step];
+        let present = present_after(s, list, step).into_iter().map(|t| t.train);
+        let others: Vec<u32> = present.filter(|n| *n != own).collect();
+        let most = r.one_of(&[1, 96, 9_999]);
+        let number = match sort {
+            0 if others.is_empty() => return 0,
+            0 => r.one_of(&others),
+            1 => 0,
+            2 => r.one_of(&[own.saturating_sub(1), own + 1]),
+            3 => 97 + r.below(9_903) as u32,
+            _ => 1 + r.below(most) as u32,
+        };
+        let (mut text, _) =
+            record_of(s, &list.accepted, LONGEST_TEXT).expect("settings that are taken");
+        let columns = LINE_BYTES * before + 10..LINE_BYTES * before + 14;
+        text[columns].copy_from_slice(format!("{number:>4}").as_bytes());
+        self.texts += 1;
+        self.refused[sort] += (read(&text).err() == Some((16, before + 1))) as u32;
+        text_differs(r, &text)
+    }
+
+    // The list recorded with too little space for a D line: how many differ.
+    fn no_space_differs(&mut self, r: &mut Random, s: &[u32; SETTINGS], list: &List) -> u32 {
+        let Some((step, before)) = commanding(r, list, b'D') else {
+            return 0;
+        };
+        let bytes = LINE_BYTES * (before + 1) + r.below(LINE_BYTES as u64) as usize;
+        let whole = recorded(s, list, &mut vec![0; bytes]);
+        self.records += 1;
+        self.no_space += whole.is_ok_and(|(told, _)| told.answers[step] == 14) as u32;
+        !same_record(r, s, list, bytes) as u32
+    }
+
+    fn check_enough(&self) {
+        assert!(self.refused.iter().all(|n| *n >= 900), "{self:?}");
+        assert!(self.no_space >= 5_000, "{self:?}");
+    }
+}
+
 // A long record about the longest text: ending at it or up to two lines around it, whole, cut, something appended, or damaged.
 fn long_text(r: &mut Random) -> Vec<u8> {
     loop {
@@ -998,6 +1205,7 @@ struct Hands {
     by_occupy: u32,
     // refusal 11
     held: u32,
+    lowers: Lowers,
 }
 
 fn is_approach(letter: char) -> bool {
@@ -1009,13 +1217,13 @@ type First = Option<(u32, u32)>;
 
 impl Hands {
     // An accepted step of a train: the soonest and the one first at its latest before it, and after it.
-    fn count(&mut self, letter: char, command: char, was: [First; 2], is: [First; 2]) {
+    fn count(&mut self, letter: char, command: Command, was: [First; 2], is: [First; 2]) {
         let changed = [0, 1].map(|k| was[k].is_some() && is[k].is_some() && was[k] != is[k]);
         let equals = was[0].map(|f| f.0) == is[0].map(|f| f.0);
         let left = letter == 'L' && changed[0];
         self.by_leave += left as u32;
         self.of_equals += (left && equals) as u32;
-        self.raised += (left && command == 'U') as u32;
+        self.raised += (left && command == Command::Raise) as u32;
         self.by_approach += (is_approach(letter) && changed[0]) as u32;
         self.by_occupy += (letter == 'O' && changed[1]) as u32;
     }
@@ -1028,6 +1236,8 @@ impl Hands {
         assert!(self.by_approach >= 1_000, "{self:?}");
         assert!(self.by_occupy >= 10_000, "{self:?}");
         assert!(self.held >= 10_000, "{self:?}");
+        self.lowers
+            .check_enough([1_800, 700, 500, 2_500, 4_000, 2_200, 1_800, 1_000]);
     }
 }
 
@@ -1296,6 +1506,36 @@ fn full_yard(w: &mut Walk, trains: &[u32]) {
     }
 }
 
+// Trains of any kinds that come due in one tick, or some in the next: the slower ones approach first. They go inside and leave, each
+// time in another order.
+fn meet(w: &mut Walk, trains: &[u32]) {
+    let s = w.b.settings;
+    let slowest = KINDS.map(|k| k.earliest(&s)).into_iter().max().unwrap();
+    let tick = w.b.now + slowest + w.r.below(3) as u32;
+    let mut coming = Vec::new();
+    for n in in_some_order(w.r, trains) {
+        let kind = w.r.one_of(&KINDS);
+        let due = tick + w.r.one_of(&[0, 0, 1]);
+        coming.push((due - kind.earliest(&s), kind, n));
+    }
+    coming.sort_by_key(|c| c.0);
+    for (since, kind, n) in coming {
+        w.tick_until(since);
+        w.step(kind.letter(), n);
+        w.refused(trains);
+    }
+    // twice, for the clock may be held before one is due
+    for _ in 0..2 {
+        for n in in_some_order(w.r, trains) {
+            w.go_inside(n);
+        }
+    }
+    for n in in_some_order(w.r, trains) {
+        w.step('L', n);
+        w.ticks(2);
+    }
+}
+
 // Settings that are taken; a longer stay for a full yard. E is just above D, or about as far as the look goes under the command
 // down: then the next train decides whether a leave raises the arm.
 fn close_settings(r: &mut Random, full: bool) -> [u32; SETTINGS] {
@@ -1311,8 +1551,16 @@ fn close_settings(r: &mut Random, full: bool) -> [u32; SETTINGS] {
     in_order(times, [p, q, w, d + widest(times), u])
 }
 
-// A list in which the kept trains change hands: a full yard, or few trains in three of the ways above.
-fn handed_over(r: &mut Random, hands: &mut Hands, full: bool) -> ([u32; SETTINGS], List) {
+#[derive(Clone, Copy, PartialEq)]
+enum Yard {
+    Few,
+    Full,
+    Meeting,
+}
+
+// A list in which the kept trains change hands: a full yard, or few trains in three of the ways above, or only such that meet.
+fn handed_over(r: &mut Random, hands: &mut Hands, yard: Yard) -> ([u32; SETTINGS], List) {
+    let full = yard == Yard::Full;
     let s = close_settings(r, full);
     let many = if full { 96 } else { 2 + r.below(4) as usize };
     let trains = some_trains(r, many);
@@ -1322,26 +1570,30 @@ fn handed_over(r: &mut Random, hands: &mut Hands, full: bool) -> ([u32; SETTINGS
         b: Bench::new(&s).expect("settings that are taken"),
         list: List::default(),
     };
-    if full {
-        full_yard(&mut w, &trains);
-    } else {
-        for _ in 0..3 {
-            let way: fn(&mut Walk, &[u32]) = w.r.one_of(&[relay, ties, up_to_latest, by_chance]);
-            way(&mut w, &trains);
+    match yard {
+        Yard::Full => full_yard(&mut w, &trains),
+        Yard::Meeting => (0..3).for_each(|_| meet(&mut w, &trains)),
+        Yard::Few => {
+            for _ in 0..3 {
+                let way: fn(&mut Walk, &[u32]) =
+                    w.r.one_of(&[relay, ties, up_to_latest, by_chance]);
+                way(&mut w, &trains);
+            }
         }
     }
     // so that each list has a refused step
     w.step('A', 0);
     w.list.end(&w.b);
+    w.hands.lowers.count(&s, &w.list);
     (s, w.list)
 }
 
 // The record of the steps before one that is refused for its train or because the clock is held, and that step's line after it.
 fn up_to_refused(r: &mut Random, s: &[u32; SETTINGS], list: &List) -> Vec<u8> {
-    let refused = |i: &usize| (5..=11).contains(&list.answers[*i]);
-    let steps: Vec<usize> = (0..list.answers.len()).filter(refused).collect();
+    let refused = |i: &usize| (5..=11).contains(&list.told.answers[*i]);
+    let steps: Vec<usize> = (0..list.letters.len()).filter(refused).collect();
     let at = r.one_of(&steps);
-    let before = list.answers[..at].iter().filter(|a| **a == 0).count();
+    let before = list.told.answers[..at].iter().filter(|a| **a == 0).count();
     let accepted = &list.accepted[..before];
     let now = accepted.iter().filter(|step| step.0 == 'T').count() as u32;
     let line = match list.letters[at] {
@@ -1401,7 +1653,7 @@ fn swappable(list: &List, i: usize) -> Option<usize> {
     };
     let mut pair = [list.letters[i], list.letters[i + 1]].map(sort_of);
     pair.sort();
-    let accepted = list.answers[i..i + 2] == [0, 0];
+    let accepted = list.told.answers[i..i + 2] == [0, 0];
     let different = list.numbers[i] != list.numbers[i + 1];
     let sort = PAIRS.iter().position(|p| **p == pair);
     sort.filter(|_| accepted && different)
@@ -1424,7 +1676,8 @@ fn answered(s: &[u32; SETTINGS], letters: &[u8], numbers: &[u32], readings: &[f3
 }
 
 // Whether the list with the steps i and i + 1 swapped is answered by the library as by the second program, and as the list is:
-// the same refusal numbers and final state, the same commands after the two, and of the two together the same in the same order.
+// the same refusal numbers and final state, the same commands with their trains before and after the two, and of the two together the
+// same in the same order.
 fn same_swapped(
     r: &mut Random,
     s: &[u32; SETTINGS],
@@ -1436,9 +1689,9 @@ fn same_swapped(
     letters.swap(i, i + 1);
     numbers.swap(i, i + 1);
     let swapped = answered(s, &letters, &numbers, &list.readings);
-    let given = |orders: &[u8]| -> Vec<u8> {
-        let two = orders[i..i + 2].iter().copied();
-        two.filter(|o| *o != 0).collect()
+    let given = |commands: &[(u8, u32)]| -> Vec<(u8, u32)> {
+        let two = commands[i..i + 2].iter().copied();
+        two.filter(|c| *c != (0, 0)).collect()
     };
     let mut got = Vec::new();
     for each in [list, &swapped] {
@@ -1449,9 +1702,10 @@ fn same_swapped(
             println!("settings {s:?}, steps {i} and the next swapped: {state:?} got\n{each:?}");
             return false;
         }
-        lent.answers.truncate(letters.len());
-        lent.orders.truncate(letters.len());
-        got.push((lent.answers, lent.orders, state));
+        let mut commands = lent.told.commands();
+        commands.truncate(letters.len());
+        lent.told.answers.truncate(letters.len());
+        got.push((lent.told.answers, commands, state));
     }
     let (was, is) = (&got[0], &got[1]);
     let same = was.0 == is.0
@@ -1462,7 +1716,7 @@ fn same_swapped(
     if !same {
         println!("settings {s:?}, steps {i} and the next swapped: {was:?}, then {is:?}\n{list:?}");
     }
-    let raised = |orders: &[u8]| (i..i + 2).find(|j| orders[*j] == b'U');
+    let raised = |commands: &[(u8, u32)]| (i..i + 2).find(|j| commands[*j].0 == b'U');
     match (raised(&was.1), raised(&is.1)) {
         (Some(j), Some(k)) if j == k => swaps.other_train += 1,
         (Some(_), Some(_)) => swaps.other_place += 1,
@@ -1497,7 +1751,9 @@ fn main() {
     let mut l = Random(0x3c6e_f372_fe94_f82b);
     let mut v = Random(0xa54f_f53a_5f1d_36f1);
     let mut c = Random(0x510e_527f_ade6_82d1);
+    let mut d = Random(0x9b05_688c_2b3e_6c1f);
     let (mut looks, mut swaps) = (0, Swaps::default());
+    let mut lines = CommandLines::default();
     let (mut tried, mut states, mut records, mut texts, mut differ) = (0, 0, 0, 0, 0);
     while tried < STEPS {
         let s = settings(&mut r);
@@ -1553,6 +1809,7 @@ fn main() {
             texts += 1;
             differ += text_differs(&mut p, &text);
         }
+        differ += lines.differ(&mut d, &s, &list);
     }
     for _ in 0..LONG_TEXTS {
         let text = long_text(&mut p);
@@ -1567,34 +1824,43 @@ fn main() {
         differ += text_differs(&mut p, &text);
     }
     let mut hands = Hands::default();
-    for i in 0..HAND_LISTS + FULL_YARDS {
-        let (s, list) = handed_over(&mut h, &mut hands, i >= HAND_LISTS);
+    let few = vec![Yard::Few; HAND_LISTS as usize];
+    let full = vec![Yard::Full; FULL_YARDS as usize];
+    let meeting = vec![Yard::Meeting; MEETINGS as usize];
+    for yard in [few, full, meeting].concat() {
+        let (s, list) = handed_over(&mut h, &mut hands, yard);
         differ += list_differs(&mut h, &s, &list);
         looks += 1;
         differ += !same_look(&mut l, &s, &list, WHOLE, [2, 2]) as u32;
         differ += swapped_differ(&mut v, &s, &list, &mut swaps);
+        differ += lines.differ(&mut d, &s, &list);
     }
     let (mut heard, mut given) = (0, Given::default());
     for _ in 0..HEARD_LISTS {
         let s = settings(&mut c);
         let list = hearing(&mut c, &s);
         heard += list.letters.len();
-        given.count(&list);
+        given.count(&s, &list);
         differ += heard_differs(&mut c, &s, &list);
     }
     if differ == 0 {
         hands.check_enough();
         swaps.check_enough();
         given.check_enough();
+        lines.check_enough();
     }
-    let lists = HAND_LISTS + FULL_YARDS;
+    let lists = HAND_LISTS + FULL_YARDS + MEETINGS;
+    texts += lines.texts;
+    records += lines.records;
     tried += 2 * (LAST_INSTANT as u64 + 1);
     differ += !clock.join().expect("the clock's comparison") as u32;
     let reports = 3 * texts;
     let (swapped, sorts) = (swaps.all(), swaps.tried);
     let (other_train, other_place) = (swaps.other_train, swaps.other_place);
+    let (no_space, refused) = (lines.no_space, lines.refused);
+    let (lowers, named, alone) = (hands.lowers.all, hands.lowers.named, given.lowers.all);
     println!(
-        "{tried} steps, {states} final states, {looks} looks, {swapped} swapped neighbours (AA, AO, OO, LO, LL: {sorts:?}; the raise {other_train} times with the other train's leave, {other_place} times at the other place), {HEARD_LISTS} lists of {heard} steps that a cabinet alone hears, {records} recordings, {texts} texts (the longest has {longest} bytes) with their stretches and {reports} reports, {lists} lists in which the kept trains change hands, {differ} differ"
+        "{tried} steps, {states} final states, {looks} looks, {swapped} swapped neighbours (AA, AO, OO, LO, LL: {sorts:?}; the raise {other_train} times with the other train's leave, {other_place} times at the other place), {HEARD_LISTS} lists of {heard} steps that a cabinet alone hears, with {alone} lowers, {records} recordings ({no_space} without space for a D line), {texts} texts (the longest has {longest} bytes; another number on a command line, 16 there: on D another present train's, 0, a neighbour, out of range, on U: {refused:?}) with their stretches and {reports} reports, {lists} lists in which the kept trains change hands, with {lowers} lowers (the named train due in one tick with another, with two or more, with one that approached at another instant; not the lowest number, not the last to approach, neither, not the first, not the first at its latest: {named:?}), {differ} differ"
     );
     std::process::exit((differ > 0) as i32);
 }
