@@ -9,7 +9,7 @@
 mod inplace;
 mod kept;
 
-use inplace::{Bench, FullLooks, Looks, Settings, Standing, FIRST_LINE, FULL, HEAD, LAST_LINE, LINE, LONGEST, ROW};
+use inplace::{Bench, FullLooks, Looks, Order, Settings, Standing, FIRST_LINE, FULL, HEAD, LAST_LINE, LINE, LONGEST, ROW};
 use kept::Kept;
 use std::hint::black_box;
 use std::time::Instant;
@@ -28,6 +28,8 @@ extern "C" {
         answers_len: usize,
         orders: *mut u8,
         orders_len: usize,
+        named: *mut u32,
+        named_len: usize,
     ) -> u8;
     fn weqhaso_record(
         values: *const u32,
@@ -40,6 +42,10 @@ extern "C" {
         readings_len: usize,
         answers: *mut u8,
         answers_len: usize,
+        orders: *mut u8,
+        orders_len: usize,
+        named: *mut u32,
+        named_len: usize,
         out: *mut u8,
         out_len: usize,
     ) -> u64;
@@ -96,6 +102,8 @@ struct Yard {
     kinds: Kinds,
     next: u32,
     present: u32,
+    // the lowers whose train approached after another that is due as soon
+    equals: usize,
 }
 
 impl Yard {
@@ -118,6 +126,7 @@ impl Yard {
             kinds,
             next: 0,
             present: many,
+            equals: 0,
         }
     }
 
@@ -125,10 +134,13 @@ impl Yard {
         self.bench.trains.table.iter().filter(|t| !matches!(t, Standing::Away)).count()
     }
 
-    // The next number whose train is away.
+    // The next number whose train is away; with four kinds any such number, so that of equals the lowest may be the later one.
     fn next_away(&mut self) -> u32 {
         loop {
-            self.next = self.next % 96 + 1;
+            self.next = match self.kinds {
+                Kinds::One => self.next % 96 + 1,
+                Kinds::Four => 1 + self.random.below(96) as u32,
+            };
             if let Standing::Away = self.bench.trains.table[self.next as usize - 1] {
                 return self.next;
             }
@@ -163,7 +175,7 @@ impl Yard {
     }
 
     // An accepted step: its letter, its train or angle, and the command given.
-    fn step(&mut self) -> (u8, u32, u8) {
+    fn step(&mut self) -> (u8, u32, Order) {
         let few = self.count() < self.present as usize;
         let (letter, number) = if few {
             (self.approach_letter(), self.next_away())
@@ -171,7 +183,22 @@ impl Yard {
             self.train_moves().unwrap_or_else(|| (b'T', self.angle()))
         };
         let order = self.bench.step(letter, number).expect("a step that is accepted");
+        if let Order::Lower(n) = order {
+            self.equals += self.later_equal(n) as usize;
+        }
         (letter, number, order)
+    }
+
+    // Whether a train that approached before this one is due at the same instant.
+    fn later_equal(&self, n: u32) -> bool {
+        let trains = &self.bench.trains;
+        let approach = |standing: &Standing| match *standing {
+            Standing::Away => None,
+            Standing::Coming(kind, a) | Standing::Inside(kind, a) => Some((a, trains.due(kind, a))),
+        };
+        let own = approach(&trains.table[n as usize - 1]);
+        let mut all = trains.table.iter().filter_map(approach);
+        own.is_some_and(|(a, due)| all.any(|(b, other)| b < a && other == due))
     }
 
     // As far as the arm must go.
@@ -192,6 +219,8 @@ struct List {
     readings: Vec<f32>,
     answers: Vec<u8>,
     orders: Vec<u8>,
+    named: Vec<u32>,
+    equals: usize,
 }
 
 impl List {
@@ -201,7 +230,7 @@ impl List {
 
     // So many steps of a yard.
     fn first_of(mut yard: Yard, many: usize) -> List {
-        let steps: Vec<(u8, u32, u8)> = (0..many).map(|_| yard.step()).collect();
+        let steps: Vec<(u8, u32, Order)> = (0..many).map(|_| yard.step()).collect();
         List {
             settings: yard.settings,
             letters: steps.iter().map(|s| s.0).collect(),
@@ -209,6 +238,8 @@ impl List {
             readings: steps.iter().map(|s| if s.0 == b'T' { s.1 as f32 / 64.0 } else { 0.0 }).collect(),
             answers: vec![99; many],
             orders: vec![99; many],
+            named: vec![99; many],
+            equals: yard.equals,
         }
     }
 
@@ -227,6 +258,8 @@ impl List {
                 self.answers.len(),
                 self.orders.as_mut_ptr(),
                 self.orders.len(),
+                self.named.as_mut_ptr(),
+                self.named.len(),
             )
         }
     }
@@ -239,6 +272,7 @@ impl List {
             &self.readings,
             &mut self.answers,
             &mut self.orders,
+            &mut self.named,
         )
     }
 
@@ -272,6 +306,10 @@ impl List {
                 self.readings.len(),
                 self.answers.as_mut_ptr(),
                 self.answers.len(),
+                self.orders.as_mut_ptr(),
+                self.orders.len(),
+                self.named.as_mut_ptr(),
+                self.named.len(),
                 out.as_mut_ptr(),
                 out.len(),
             )
@@ -285,6 +323,8 @@ impl List {
             &self.numbers,
             &self.readings,
             &mut self.answers,
+            &mut self.orders,
+            &mut self.named,
             out,
         )
     }
@@ -297,15 +337,27 @@ impl List {
         }
     }
 
-    // What all sides answer, recorded into so many bytes.
-    fn recorded_alike(&mut self, len: usize) -> (u64, Vec<u8>, Vec<u8>) {
+    // What all sides answer, recorded into so many bytes, with the same answers, commands and trains beside the steps.
+    fn recorded_alike(&mut self, len: usize) -> (u64, Vec<u8>) {
         let [ours, full, kept] = SIDES.map(|side| {
             let mut out = vec![99; len];
-            self.answers.fill(99);
-            (self.record(side, &mut out), self.answers.clone(), out)
+            self.unwrite();
+            (self.record(side, &mut out), self.written(), out)
         });
         assert!(ours == full && ours == kept, "recordings differ in {len} bytes");
-        ours
+        (ours.0, ours.2)
+    }
+
+    // Nothing is written beside the steps.
+    fn unwrite(&mut self) {
+        self.answers.fill(99);
+        self.orders.fill(99);
+        self.named.fill(99);
+    }
+
+    // What is written beside the steps, and beyond.
+    fn written(&self) -> (Vec<u8>, Vec<u8>, Vec<u32>) {
+        (self.answers.clone(), self.orders.clone(), self.named.clone())
     }
 
     fn check_same(&mut self) {
@@ -313,15 +365,14 @@ impl List {
         assert!(refusal == 0 && answers.iter().all(|a| *a == 0), "a run or a step is refused");
     }
 
-    // What all sides answer, with the same commands.
+    // What all sides answer, with the same commands and trains.
     fn run_alike(&mut self) -> (u8, Vec<u8>) {
         let [ours, full, kept] = SIDES.map(|side| {
-            self.answers.fill(99);
-            self.orders.fill(99);
-            (self.run(side), self.answers.clone(), self.orders.clone())
+            self.unwrite();
+            (self.run(side), self.written())
         });
-        assert!(ours == full && ours == kept, "answers or commands differ");
-        (ours.0, ours.1)
+        assert!(ours == full && ours == kept, "answers, commands or trains differ");
+        (ours.0, ours.1 .0)
     }
 
     // A step exchanged or left out, another setting, too short a slice, or any letter.
@@ -334,7 +385,11 @@ impl List {
             3 => self.readings[at] = r.below(2 * FULL as u64 + 9) as f32 / 128.0,
             4 => self.settings[i] = [0, 1, FULL, FULL + 1, 60_000, 60_001][r.below(6) as usize],
             5 => self.settings[i] = (self.settings[i] + r.below(5) as u32).saturating_sub(2),
-            6 if r.below(8) == 0 => self.answers.truncate(at),
+            6 if r.below(8) == 0 => match r.below(3) {
+                0 => self.answers.truncate(at),
+                1 => self.orders.truncate(at),
+                _ => self.named.truncate(at),
+            },
             7 if r.below(8) == 0 => self.letters[at] = b'A' + r.below(26) as u8,
             _ => {
                 self.letters.remove(at);
@@ -373,8 +428,8 @@ fn record(kinds: Kinds) -> Vec<u8> {
     while text.len() + 3 * LINE <= LONGEST {
         let (letter, number, order) = yard.step();
         put_line(&mut text, yard.bench.now, letter, number);
-        if order != 0 {
-            put_line(&mut text, yard.bench.now, order, 0);
+        if order.letter() != 0 {
+            put_line(&mut text, yard.bench.now, order.letter(), order.train());
         }
     }
     text.extend_from_slice(LAST_LINE);
@@ -411,7 +466,7 @@ fn same_report(text: &[u8], len: usize) -> bool {
 fn damage(text: &mut Vec<u8>, r: &mut Random) {
     let at = r.below(text.len() as u64) as usize;
     let line = at / LINE * LINE;
-    match r.below(7) {
+    match r.below(8) {
         0 => text[at] = b"0123456789 ABEFOLTDUS\n"[r.below(22) as usize],
         1 => text[at] = r.below(256) as u8,
         2 => text.truncate(at),
@@ -425,6 +480,13 @@ fn damage(text: &mut Vec<u8>, r: &mut Random) {
         }
         // any letter
         5 => text[line + 9] = b'A' + r.below(26) as u8,
+        // a command, from this line on, with any train or 0
+        6 => {
+            let mut lines = text.chunks_exact_mut(LINE).skip(line.max(HEAD) / LINE);
+            if let Some(command) = lines.find(|l| matches!(l[9], b'D' | b'U')) {
+                command[10..14].copy_from_slice(format!("{:>4}", r.below(97)).as_bytes());
+            }
+        }
         _ => text.push(10),
     }
 }
@@ -456,12 +518,14 @@ fn check_same_reports(text: &[u8]) {
 fn check_same_lists() -> [usize; 17] {
     let mut r = Random(0x0fed_cba9_8765_4321);
     let mut met = [0; 17];
+    let mut equals = 0;
     for _ in 0..DAMAGED {
         let (present, earliest) = (1 + r.below(6) as u32, 6 + r.below(10) as u32);
         let yard = Yard::new(present, earliest, 1920, Kinds::Four, 1 + r.below(u64::MAX));
         let mut list = List::first_of(yard, 20 + r.below(200) as usize);
-        for _ in 0..r.below(4) {
-            list.damage(&mut r);
+        match r.below(4) {
+            0 => equals += list.equals,
+            times => (0..times).for_each(|_| list.damage(&mut r)),
         }
         let (refusal, answers) = list.run_alike();
         met[refusal as usize] += 1;
@@ -469,7 +533,7 @@ fn check_same_lists() -> [usize; 17] {
             answers[..list.letters.len()].iter().for_each(|a| met[*a as usize] += 1);
         }
         let len = HEAD + r.below(2 * (LINE * list.letters.len()) as u64) as usize;
-        let (recorded, _, out) = list.recorded_alike(len);
+        let (recorded, out) = list.recorded_alike(len);
         let mut text = out[..recorded as usize / 256].to_vec();
         assert!(same_report(&text, LONGEST), "{}", String::from_utf8_lossy(&text));
         if !text.is_empty() {
@@ -478,6 +542,7 @@ fn check_same_lists() -> [usize; 17] {
         }
         met[read(Side::Ours, &text) as usize % 256] += 1;
     }
+    assert!(equals > 0, "no lower of the lowest of equals, which is not the first of them");
     met
 }
 

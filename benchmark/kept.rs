@@ -39,6 +39,10 @@ fn first_of(trains: &Trains, own: impl Fn(&Standing) -> Option<u32>) -> First {
 }
 
 impl Looks for Kept {
+    fn soonest_due_by(&self, _: &Trains, instant: u32) -> Option<u32> {
+        self.soonest.filter(|(due, _)| *due <= instant).map(|(_, n)| n)
+    }
+
     fn some_due_by(&self, _: &Trains, instant: u32) -> bool {
         reached(self.soonest, instant)
     }
