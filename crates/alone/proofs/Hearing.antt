@@ -20,8 +20,7 @@ use Rattle.runs.specs.Letters.{letterOf, isHeard}
 use Rattle.runs.specs.Claims.{Heard, approaching, leaving, ticking, cabinetStepped, cabinetNext, cabinetAnswer}
 use Rattle.runs.specs.Run.{answerByte, answerTrain, Told, Beside, WentThrough}
 use Rattle.runs.proofs.Slices.{letter-at}
-use Rattle.runs.proofs.Through.{toldAt, Went, went-start, went-next, went-end}
-use Rattle.runs.proofs.Onward.{told-long}
+use Rattle.runs.proofs.Through.{toldAt, told-long, Went, went-start, went-next, went-end}
 use Rattle.alone.specs.Alone.{heardBy, heardOf, hearing, AloneRan}
 
 -- ---- letters
@@ -88,9 +87,9 @@ started-fresh s m e = ap (λ (m : Stepped). m .cabinet) e
 pub alone-taken : (s : Settings) (xs : List Heard) (k : ℕ) (r : Cabinet) (old new : Told) → k ≡ 0 →
     WentThrough cabinetNext cabinetAnswer (freshCabinet s) xs r old new → AloneRan s xs k (record { verdict = Taken; cabinet = r }) old new
 alone-taken s xs k r old new z w =
-    rw z (record { ended = ap (λ (c : Cabinet). record { verdict = Taken; cabinet = c }) (w .state); writes = w .written })
+    rw z (record { ended = ap (λ (c : Cabinet). record { verdict = Taken; cabinet = c }) (w .state); written = w .written })
 
 -- refused, nothing is written
 pub alone-refused : (s : Settings) (xs : List Heard) (k : ℕ) (old : Told) → (k ≡ 0 → ⊥) → AloneRan s xs k (record { verdict = Refused k; cabinet = freshCabinet s }) old old
 alone-refused s xs zero old n = absurd (n refl)
-alone-refused s xs (suc k) old n = record { ended = refl; writes = refl }
+alone-refused s xs (suc k) old n = record { ended = refl; written = refl }

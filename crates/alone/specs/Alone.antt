@@ -52,10 +52,10 @@ endedBy zero s xs = record { verdict = Taken; cabinet = cabinetAfter (freshCabin
 endedBy (suc k) s xs = record { verdict = Refused (suc k); cabinet = freshCabinet s }
 
 -- what is written of a list xs with this refusal number: each answer's number, and each command by letter and train
-abbrev pub written : Settings → List Heard → ℕ → Told → Told
-written s xs k old = toldUnless k (map numberOf (cabinetAnswers (freshCabinet s) xs)) (map orderOf (cabinetAnswers (freshCabinet s) xs)) old
+abbrev pub aloneTold : Settings → List Heard → ℕ → Told → Told
+aloneTold s xs k old = toldUnless k (map numberOf (cabinetAnswers (freshCabinet s) xs)) (map orderOf (cabinetAnswers (freshCabinet s) xs)) old
 
 -- and what comes back
 pub record AloneRan (s : Settings) (xs : List Heard) (k : ℕ) (r : Ended) (old new : Told) : Type 0 where
   pub ended : r ≡ endedBy k s xs
-  pub writes : new ≡ written s xs k old
+  pub written : new ≡ aloneTold s xs k old

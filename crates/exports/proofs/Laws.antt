@@ -46,7 +46,7 @@ answered-run s xs k r old new n ran e =
 pub answered-alone : (s : Settings) (xs : List Heard) (k : ℕ) (r : Ended) (old new : Told) (n : ℕ) →
     AloneRan s xs k r old new → n ≡ numberOf (r .verdict) → CabinetAnswered s xs k n old new
 answered-alone s xs k r old new n ran e =
-    record { number = e ∙ ap (λ (f : Ended). numberOf (f .verdict)) (ran .ended) ∙ go k; writes = ran .writes }
+    record { number = e ∙ ap (λ (f : Ended). numberOf (f .verdict)) (ran .ended) ∙ go k; written = ran .written }
   where
     go : (k : ℕ) → numberOf (endedBy k s xs .verdict) ≡ k
     go zero = refl

@@ -12,7 +12,7 @@ use Rattle.runs.specs.History as rules
 use Rattle.runs.specs.Run.{Told, unlessRefused, toldUnless}
 use Rattle.runs.specs.Demand.{Demand3}
 use Rattle.runs.specs.Claims.{Heard}
-use Rattle.alone.specs.Alone.{written}
+use Rattle.alone.specs.Alone.{aloneTold}
 use Rattle.recorder.specs.Text.{current, text}
 use Rattle.recorder.specs.Recording.{stepRefusalsIn, ordersIn, runSoFar}
 use Rattle.lines.specs.Place.{WritesOnly}
@@ -28,7 +28,7 @@ pub record Answered (s : Settings) (xs : List Step) (k r : ℕ) (old new : Told)
 -- a list of what a cabinet alone hears, with this refusal number: the number is answered, and the cabinet's answers are written
 pub record CabinetAnswered (s : Settings) (xs : List Heard) (k r : ℕ) (old new : Told) : Type 0 where
   pub number : r ≡ k
-  pub writes : new ≡ written s xs k old
+  pub written : new ≡ aloneTold s xs k old
 
 -- 256 times a count, and a refusal number; the count up to 2 ^ 56
 abbrev pub pack : ℕ → ℕ → ℕ

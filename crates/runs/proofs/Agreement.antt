@@ -50,7 +50,7 @@ use Rattle.runs.specs.Match.{Valid, shown, Core, Match}
 use Rattle.runs.specs.Swap.{SameTrain}
 use Rattle.runs.specs.Demand.{answerOf, entryFrom, Agrees}
 use Rattle.runs.proofs.Rules.{some-true, some-present, approach-ok, occupy-ok, leave-ok}
-use Rattle.runs.proofs.Soonest.{dueBy, due-by, soonest-only}
+use Rattle.runs.proofs.Soonest.{dueFrom, due-from, soonest-only}
 use Rattle.runs.proofs.Invariants.{valid-after, valid, clock-range}
 use Rattle.runs.proofs.Kept.{step-full, step-kept}
 
@@ -111,14 +111,14 @@ module _ {told : Bool} {s : Settings} {h : History} {u : Settings} {i : ℕ} {t 
   unfolding ownOf hasOwn instantOf
   table-soonest = soonest-only s h (λ n. ownOf s Due n (entryOf t n)) same (firstIn s Due t) (first-is s Due t (m .formed))
     where
-      each : (told : Bool) (n : ℕ) (p : Place) (a : ℕ) (k : Kind) → ownOf s Due n (shown told p a k) ≡ dueBy s n p a k
+      each : (told : Bool) (n : ℕ) (p : Place) (a : ℕ) (k : Kind) → ownOf s Due n (shown told p a k) ≡ dueFrom s n p a k
       each told n away a k = refl
       each told n coming a k = refl
       each true n inside a k = refl
       each false n inside a k = refl
 
       same : (n : ℕ) → ownOf s Due n (entryOf t n) ≡ dueOf s h n
-      same n = by-entry (ownOf s Due n) (dueBy s n) (each told n) n ∙ sym (due-by s h n)
+      same n = by-entry (ownOf s Due n) (dueFrom s n) (each told n) n ∙ sym (due-from s h n)
 
   -- the full look: the order is the rules', and so is the command after it
   abbrev Looked : Order → Command → Type 0

@@ -19,7 +19,6 @@ use Rattle.bench.specs.declared.Sensed.{Sensed}
 use Rattle.bench.specs.declared.Moved.{Moved}
 use Rattle.bench.specs.declared.Ticked.{Ticked}
 use Rattle.bench.specs.Bench.{sensed, clockRead, headSensed, headTicked, askedFor, firstFor, questionFor, withMotion}
-use Rattle.runs.specs.declared.Feed.{Feed}
 use Rattle.runs.specs.declared.Feed.the-variants.{ToBench}
 use Rattle.runs.specs.declared.Letter.the-variants as letter
 use Rattle.runs.specs.declared.Step.{Step}
@@ -29,7 +28,7 @@ use Rattle.runs.specs.Letters.{letterOf, eventStep}
 use Rattle.runs.specs.Run.{stepsOf, answerByte, answerTrain, Told, Beside, WentThrough}
 use Rattle.runs.proofs.Letters.{event-sensed}
 use Rattle.runs.proofs.Slices.{stepsFrom, StandsFor, steps-next, steps-end}
-use Rattle.runs.proofs.Through.{toldAt, Long, Went, went-start, went-next, went-end}
+use Rattle.runs.proofs.Through.{toldAt, told-long, Went, went-start, went-next, went-end}
 use Rattle.runs.proofs.Turns.{asked-by, sensed-answer, sensed-taken, sensed-refused}
 
 -- at place i, the three slices
@@ -38,10 +37,6 @@ pub record BenchWent (ls ns : List ℕ) (rs : List Float) (old : Told) (first : 
 
 pub bench-start : (ls ns : List ℕ) (rs : List Float) (old : Told) (first : Bench) → BenchWent ls ns rs old first old first 0
 bench-start ls ns rs old first = record { went = went-start (length ls) (stepsFrom ls ns rs) benchNext benchAnswer old first }
-
--- slices that lie beside the letters are long enough
-pub told-long : {k : Feed} {ls : List ℕ} {p q : ℕ} {t : Told} → Beside k ls p q (length (t .answers)) (length (t .orders)) (length (t .named)) → Long (length ls) t
-told-long long = record { answers = long .byAnswers; orders = long .byOrders; named = long .byNamed }
 
 module _ {ls ns : List ℕ} {rs : List Float} {old : Told} {first : Bench}
     (long : Beside ToBench ls (length ns) (length rs) (length (old .answers)) (length (old .orders)) (length (old .named)))

@@ -55,13 +55,13 @@ module _ (own : ℕ → First) where
 -- ---- of the trains of a history
 
 -- train n with its due instant, by where it is, since when and of which kind
-abbrev pub dueBy : Settings → ℕ → Place → ℕ → Kind → First
-dueBy s n p a k = cond (isAway p) Nobody (Train n (a + timesOf s k .earliest))
+abbrev pub dueFrom : Settings → ℕ → Place → ℕ → Kind → First
+dueFrom s n p a k = cond (isAway p) Nobody (Train n (a + timesOf s k .earliest))
 
 module _ (s : Settings) (h : History) where
-  pub due-by : (n : ℕ) → dueOf s h n ≡ dueBy s n (place n h) (since n h) (kindOf n h)
+  pub due-from : (n : ℕ) → dueOf s h n ≡ dueFrom s n (place n h) (since n h) (kindOf n h)
   unfolding dueOf dueAt
-  due-by n = refl
+  due-from n = refl
 
   due-present : (n : ℕ) → isAway (place n h) ≡ false → dueOf s h n ≡ Train n (dueAt s h n)
   unfolding dueOf
@@ -132,4 +132,4 @@ pub soonest-same : (s : Settings) (h g : History) → ((n : ℕ) → SameTrain n
 soonest-same s h g trains = soonest-only s g (dueOf s h) same (soonest s h) (soonest-is s h)
   where
     same : (n : ℕ) → dueOf s h n ≡ dueOf s g n
-    same n = let t = trains n in due-by s h n ∙ (λ i. dueBy s n (t .0 i) (t .1 i) (t .2 i)) ∙ sym (due-by s g n)
+    same n = let t = trains n in due-from s h n ∙ (λ i. dueFrom s n (t .0 i) (t .1 i) (t .2 i)) ∙ sym (due-from s g n)
