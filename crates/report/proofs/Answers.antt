@@ -13,7 +13,7 @@ use Rattle.recorder.specs.Text.{current}
 use Rattle.reader.specs.Read.{readText}
 use Rattle.reader.specs.Round.{runOf}
 use Rattle.stretches.specs.declared.Tally.{Tally}
-use Rattle.stretches.specs.declared.Sort.the-variants.{Lowered, Occupied}
+use Rattle.stretches.specs.declared.Sort.the-variants.{Lowered}
 use Rattle.stretches.specs.Walk.{startCursor}
 use Rattle.stretches.specs.Figures.{total, tallied}
 use Rattle.stretches.proofs.Texts.{text-lowered, text-occupied}
@@ -22,6 +22,7 @@ use Rattle.report.specs.declared.Reported.{Reported}
 use Rattle.report.specs.Report.{reportLine, runReport, writtenBytes, shortBuffer, ReportWritten}
 use Rattle.report.specs.Rows.{ns, os, rowsIn, rowLines, Space}
 use Rattle.report.proofs.Rows.{length-row}
+use Rattle.report.proofs.Joining.{os-few}
 use Rattle.report.proofs.Merge.{rows-bytes}
 
 -- ---- lines that fit, and lines that do not
@@ -51,19 +52,19 @@ module _ (t : List ℕ) (accepted : readText current t .verdict ≡ Taken) where
   report-bytes = ap length (sym report-lines) ∙ length-append (rowLines t) _ ∙ rw (rows-bytes t, length-row)
 
 -- as they are counted
-module _ (t : List ℕ) (n o : Tally) (p : n ≡ tallied (ns t)) (q : o ≡ tallied (os t)) where
+module _ (t : List ℕ) (n : Tally) (o : ℕ) (p : n ≡ tallied (ns t)) (q : o ≡ length (os t)) where
   -- the bytes of the rows
   abbrev pub end : ℕ
-  end = 19 * (n .stretches + o .stretches)
+  end = 19 * (n .stretches + o)
 
-  counted-rows : n .stretches + o .stretches ≡ rowsIn t
+  counted-rows : n .stretches + o ≡ rowsIn t
   unfolding rowsIn
   counted-rows = rw (p, q)
 
-  pub counted-few : (n .stretches ≤ length t) × (n .instants ≤ length t) × (o .stretches ≤ length t)
+  pub counted-few : (n .stretches ≤ length t) × (n .instants ≤ length t) × (o ≤ length t)
   counted-few =
       let a = ahead-few Lowered t startCursor in
-      let b = ahead-few Occupied t startCursor in
+      let b = os-few t in
       (rw p (omega arith), rw p (ahead-total Lowered t startCursor), rw q (omega arith))
 
   -- with the space, the rows can be written
@@ -71,7 +72,7 @@ module _ (t : List ℕ) (n o : Tally) (p : n ≡ tallied (ns t)) (q : o ≡ tall
   counted-space out h k = record { short = h; room = omega (arith, counted-rows) }
 
   module _ (accepted : readText current t .verdict ≡ Taken) (out : List ℕ) (a : Reported) where
-    counted-lines : rowLines t ++ reportLine (o .stretches) (n .instants) 90 ≡ runReport (runOf current t)
+    counted-lines : rowLines t ++ reportLine o (n .instants) 90 ≡ runReport (runOf current t)
     counted-lines = rw (p, q) (report-lines t accepted)
 
     counted-bytes : length (runReport (runOf current t)) ≡ end + 19
@@ -79,12 +80,12 @@ module _ (t : List ℕ) (n o : Tally) (p : n ≡ tallied (ns t)) (q : o ≡ tall
 
     -- with the space for its lines, the report is written
     pub run-written : end + 19 ≤ length out → (e after : List ℕ) → e ≡ splice out 0 (rowLines t) →
-        after ≡ splice e end (reportLine (o .stretches) (n .instants) 90) → a ≡ writtenBytes (end + 19) → ReportWritten (runReport (runOf current t)) out a after
+        after ≡ splice e end (reportLine o (n .instants) 90) → a ≡ writtenBytes (end + 19) → ReportWritten (runReport (runOf current t)) out a after
     run-written h e after s r k =
         let l = rows-bytes t in
         let m = counted-rows in
         written-done (runReport (runOf current t)) out (end + 19) counted-bytes h a k after
-        (r ∙ splice-then out 0 (rowLines t) end s (omega arith) (reportLine (o .stretches) (n .instants) 90) (omega (arith, length-row (o .stretches) (n .instants) 90)) ∙ ap (splice out 0) counted-lines)
+        (r ∙ splice-then out 0 (rowLines t) end s (omega arith) (reportLine o (n .instants) 90) (omega (arith, length-row o (n .instants) 90)) ∙ ap (splice out 0) counted-lines)
 
     -- without it, nothing
     pub run-none : length out < end + 19 → a ≡ shortBuffer → ReportWritten (runReport (runOf current t)) out a out

@@ -12,18 +12,19 @@ use Rattle.settings.specs.declared.Verdict.the-variants.{Taken, Refused}
 use Rattle.recorder.specs.Text.{current}
 use Rattle.reader.specs.Read.{readText}
 use Rattle.reader.specs.Round.{runOf}
-use Rattle.stretches.specs.declared.Sort.the-variants.{Lowered, Occupied}
+use Rattle.stretches.specs.declared.Sort.the-variants.{Lowered}
 use Rattle.stretches.specs.Walk.{startCursor}
 use Rattle.stretches.proofs.Totals.{ahead-few}
 use Rattle.report.specs.Report.{runReport, refusalReport, reportBy, reportOf}
 use Rattle.report.specs.Rows.{rowsIn}
 use Rattle.report.proofs.Rows.{length-row}
+use Rattle.report.proofs.Joining.{os-few}
 use Rattle.report.proofs.Answers.{report-bytes}
 
 -- an accepted text's: no more rows of a kind than lines
 run-few : (t : List ℕ) → length t ≤ 65535 → readText current t .verdict ≡ Taken → length (runReport (runOf current t)) ≤ 166000
 unfolding rowsIn
-run-few t h e = omega (arith, report-bytes t e, ahead-few Lowered t startCursor, ahead-few Occupied t startCursor)
+run-few t h e = omega (arith, report-bytes t e, ahead-few Lowered t startCursor, os-few t)
 
 -- every text's
 pub report-few : (t : List ℕ) → length (reportOf t) ≤ 166000

@@ -12,9 +12,12 @@ use Rattle.stretches.specs.declared.Next.{Next}
 use Rattle.stretches.specs.declared.Sort.the-variants.{Lowered, Occupied}
 use Rattle.stretches.specs.declared.Stretch.{Stretch}
 use Rattle.stretches.specs.Walk.{startCursor, stretchesAhead, headed, Gives}
+use Rattle.report.specs.declared.Joined.{Joined}
+use Rattle.report.specs.Touching.{joined}
 use Rattle.report.specs.Report.{stretchLetter, stretchLine, N, O, rows, linesOf}
-use Rattle.report.specs.Rows.{comesFirst, ns, os, rowsIn, rowLines, Space}
+use Rattle.report.specs.Rows.{occupiedFrom, Within, Found, JoinsFrom, comesFirst, ns, os, rowsIn, rowLines, Space}
 use Rattle.report.proofs.Rows.{length-row}
+use Rattle.report.proofs.Joining.{Heads, found-heads}
 
 -- ---- lists of stretches merged
 
@@ -44,7 +47,7 @@ pub rows-bytes : (t : List ℕ) → length (rowLines t) ≡ 19 * rowsIn t
 unfolding rowLines rowsIn
 rows-bytes t = merged-long (ns t) (os t)
 
--- the next line is the N stretch found, or the O stretch found
+-- the next line is the N stretch found, or the first of those joined
 module _ (n o : Next) where
   first-found : comesFirst n o ≡ true → n .found ≡ true
   first-found e = go (n .found) e
@@ -61,26 +64,23 @@ module _ (n o : Next) where
       go true false q r = sym r
       go false b q r = q
 
-  first-next : (xs ys : List Stretch) → comesFirst n o ≡ true → merged (headed n xs) (headed o ys) ≡ stretchLine 78 (n .stretch) ++ merged xs (headed o ys)
+  first-next : (xs ys : List Stretch) → Heads o ys → comesFirst n o ≡ true → merged (headed n xs) ys ≡ stretchLine 78 (n .stretch) ++ merged xs ys
   unfolding rows linesOf
-  first-next xs ys e = go (n .found) (o .found) e
-    where
-      go : (a b : Bool) → (a && (not b || leb (n .stretch .first) (o .stretch .first))) ≡ true →
-          merged (cond a (n .stretch ∷ xs) []) (cond b (o .stretch ∷ ys) []) ≡ stretchLine 78 (n .stretch) ++ merged xs (cond b (o .stretch ∷ ys) [])
-      go true true q = rw q
-      go true false q = refl
-      go false b q = absurd (true≢false (sym q))
+  first-next xs [] h e = rw (first-found e)
+  first-next xs (y ∷ ys) h e =
+      let f = first-found e in
+      let l : leb (n .stretch .first) (y .first) ≡ true = rw (h .1) (rw (f, h .0) at e) in
+      rw (f, l)
 
-  second-next : (xs ys : List Stretch) → (n .found || o .found) ≡ true → comesFirst n o ≡ false → merged (headed n xs) (headed o ys) ≡ stretchLine 79 (o .stretch) ++ merged (headed n xs) ys
+  second-next : (xs : List Stretch) (y : Stretch) (ys : List Stretch) → Heads o (y ∷ ys) → comesFirst n o ≡ false →
+      merged (headed n xs) (y ∷ ys) ≡ stretchLine 79 y ++ merged (headed n xs) ys
   unfolding rows linesOf
-  second-next xs ys f e = go (n .found) (o .found) f e
+  second-next xs y ys h e = go (n .found) (rw (h .0, ← (h .1)) at e)
     where
-      go : (a b : Bool) → (a || b) ≡ true → (a && (not b || leb (n .stretch .first) (o .stretch .first))) ≡ false →
-          merged (cond a (n .stretch ∷ xs) []) (cond b (o .stretch ∷ ys) []) ≡ stretchLine 79 (o .stretch) ++ merged (cond a (n .stretch ∷ xs) []) ys
-      go true true p q = rw q
-      go true false p q = absurd (true≢false q)
-      go false true p q = refl
-      go false false p q = absurd (true≢false (sym p))
+      go : (a : Bool) → (a && leb (n .stretch .first) (y .first)) ≡ false →
+          merged (cond a (n .stretch ∷ xs) []) (y ∷ ys) ≡ stretchLine 79 y ++ merged (cond a (n .stretch ∷ xs) []) ys
+      go true q = rw q
+      go false q = refl
 
 -- ---- the rows in the buffer
 
@@ -90,15 +90,11 @@ module _ (t out₀ : List ℕ) (space : Space t out₀) where
   aheadN n = headed n (stretchesAhead Lowered t (n .cursor))
 
   abbrev aheadO : Next → List Stretch
-  aheadO o = headed o (stretchesAhead Occupied t (o .cursor))
-
-  -- an answer's instants are within the text
-  abbrev Within : Next → Type 0
-  Within r = (r .stretch .first ≤ r .stretch .last) × (r .stretch .last ≤ length t)
+  aheadO o = joined (occupiedFrom t o)
 
   pub record Merging (out : List ℕ) (n o : Next) (at : ℕ) : Type 0 where
-    pub withinN : Within n
-    pub withinO : Within o
+    pub withinN : Within (length t) (n .stretch)
+    pub withinO : Within (length t) (o .stretch)
     pub sofar : List ℕ
     pub bytes : length sofar ≡ at
     pub written : out ≡ splice out₀ 0 sofar
@@ -124,7 +120,7 @@ module _ (t out₀ : List ℕ) (space : Space t out₀) where
     merging-length = ap length (w .written) ∙ length-splice out₀ 0 (w .sofar) (omega (arith, w .bytes, w .count, space .room))
 
     -- one row more
-    row-more : (row after : List ℕ) (n′ o′ : Next) → length row ≡ 19 → Within n′ → Within o′ →
+    row-more : (row after : List ℕ) (n′ o′ : Next) → length row ≡ 19 → Within (length t) (n′ .stretch) → Within (length t) (o′ .stretch) →
         length (aheadN n) + length (aheadO o) ≡ suc (length (aheadN n′) + length (aheadO o′)) →
         merged (aheadN n) (aheadO o) ≡ row ++ merged (aheadN n′) (aheadO o′) → after ≡ splice out at row → Merging after n′ o′ (at + 19)
     row-more row after n′ o′ l x y e q p =
@@ -139,15 +135,15 @@ module _ (t out₀ : List ℕ) (space : Space t out₀) where
         }
 
     -- a row fits
-    room : (r : Next) → Within r → 1 ≤ length (aheadN n) + length (aheadO o) → (at + 19 ≤ length out) × (r .stretch .first < 100000000) × (r .stretch .last < 100000000)
-    room r b h = (omega (arith, merging-length, w .count, space .room), omega (arith, b .0, b .1, space .short), omega (arith, b .1, space .short))
+    room : (x : Stretch) → Within (length t) x → 1 ≤ length (aheadN n) + length (aheadO o) → (at + 19 ≤ length out) × (x .first < 100000000) × (x .last < 100000000)
+    room x b h = (omega (arith, merging-length, w .count, space .room), omega (arith, b .0, b .1, space .short), omega (arith, b .1, space .short))
 
     module _ (e : comesFirst n o ≡ true) where
       taken-n : aheadN n ≡ n .stretch ∷ stretchesAhead Lowered t (n .cursor)
       taken-n = rw (first-found n o e)
 
       pub room-n : (at + 19 ≤ length out) × (n .stretch .first < 100000000) × (n .stretch .last < 100000000)
-      room-n = let a = ap length taken-n in room n (w .withinN) (omega arith)
+      room-n = let a = ap length taken-n in room (n .stretch) (w .withinN) (omega arith)
 
       pub merging-n : (after : List ℕ) → after ≡ splice out at (stretchLine 78 (n .stretch)) → (next : Next) → Gives Lowered t (n .cursor) next →
           Merging after next o (at + 19)
@@ -155,7 +151,7 @@ module _ (t out₀ : List ℕ) (space : Space t out₀) where
           let a = ap length taken-n in
           let b = ap length (g .stands) in
           row-more (stretchLine 78 (n .stretch)) after next o (line-long 78 (n .stretch)) (g .ordered, g .within) (w .withinO) (omega arith)
-          (first-next n o (stretchesAhead Lowered t (n .cursor)) (stretchesAhead Occupied t (o .cursor)) e
+          (first-next n o (stretchesAhead Lowered t (n .cursor)) (aheadO o) (found-heads t o) e
           ∙ ap (λ (l : List Stretch). stretchLine 78 (n .stretch) ++ merged l (aheadO o)) (g .stands)) p
 
       pub less-n : (next : Next) → Gives Lowered t (n .cursor) next →
@@ -163,24 +159,22 @@ module _ (t out₀ : List ℕ) (space : Space t out₀) where
       less-n next g = let a = ap length taken-n in let b = ap length (g .stands) in omega arith
 
     module _ (more : (n .found || o .found) ≡ true) (e : comesFirst n o ≡ false) where
-      taken-o : aheadO o ≡ o .stretch ∷ stretchesAhead Occupied t (o .cursor)
-      taken-o = rw (second-found n o more e)
+      pub found-o : Found t o
+      found-o = record { found = second-found n o more e; within = w .withinO }
 
-      pub room-o : (at + 19 ≤ length out) × (o .stretch .first < 100000000) × (o .stretch .last < 100000000)
-      room-o = let a = ap length taken-o in room o (w .withinO) (omega arith)
+      module _ (r : Joined) (j : JoinsFrom t o r) where
+        pub room-o : (at + 19 ≤ length out) × (r .stretch .first < 100000000) × (r .stretch .last < 100000000)
+        room-o = let a = ap length (j .stands) in room (r .stretch) (j .within) (omega arith)
 
-      pub merging-o : (after : List ℕ) → after ≡ splice out at (stretchLine 79 (o .stretch)) → (next : Next) → Gives Occupied t (o .cursor) next →
-          Merging after n next (at + 19)
-      merging-o after p next g =
-          let a = ap length taken-o in
-          let b = ap length (g .stands) in
-          row-more (stretchLine 79 (o .stretch)) after n next (line-long 79 (o .stretch)) (w .withinN) (g .ordered, g .within) (omega arith)
-          (second-next n o (stretchesAhead Lowered t (n .cursor)) (stretchesAhead Occupied t (o .cursor)) more e
-          ∙ ap (λ (l : List Stretch). stretchLine 79 (o .stretch) ++ merged (aheadN n) l) (g .stands)) p
+        pub merging-o : (after : List ℕ) → after ≡ splice out at (stretchLine 79 (r .stretch)) → Merging after n (r .next) (at + 19)
+        merging-o after p =
+            let a = ap length (j .stands) in
+            row-more (stretchLine 79 (r .stretch)) after n (r .next) (line-long 79 (r .stretch)) (w .withinN) (j .beyond) (omega arith)
+            (ap (merged (aheadN n)) (j .stands)
+            ∙ second-next n o (stretchesAhead Lowered t (n .cursor)) (r .stretch) (aheadO (r .next)) (second-found n o more e, j .begins) e) p
 
-      pub less-o : (next : Next) → Gives Occupied t (o .cursor) next →
-          length (aheadN n) + length (aheadO next) < length (aheadN n) + length (aheadO o)
-      less-o next g = let a = ap length taken-o in let b = ap length (g .stands) in omega arith
+        pub less-o : length (aheadN n) + length (aheadO (r .next)) < length (aheadN n) + length (aheadO o)
+        less-o = let a = ap length (j .stands) in omega arith
 
     -- the end
     pub merging-end : (n .found || o .found) ≡ false → out ≡ splice out₀ 0 (rowLines t)

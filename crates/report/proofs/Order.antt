@@ -9,7 +9,8 @@ use borrow.Author.Tests.{leb-true, leb-false}
 use Rattle.stretches.specs.declared.Stretch.{Stretch}
 use Rattle.stretches.specs.Stretches.{loweredStretches, occupiedStretches}
 use Rattle.stretches.proofs.Rising.{RisesBy, firsts, rises-lower, lowered-rise, occupied-rise}
-use Rattle.report.specs.Report.{Row, N, O, rows}
+use Rattle.report.specs.Touching.{touch, join, joinedFrom, joined, joinedStretches}
+use Rattle.report.specs.Report.{Row, N, O, rows, runReport}
 use Rattle.report.specs.Order.{firstOf, BeforeAll, Rises, rowsN, rowsO, ReportOrder}
 
 -- ---- each row before all that follow it
@@ -69,10 +70,31 @@ rows-o (n ∷ ns) (o ∷ os) = go (leb (n .first) (o .first)) (rows-o ns (o ∷ 
     go true x y = x
     go false x y = ap (λ (l : List Stretch). o ∷ l) y
 
+-- ---- joined stretches begin where some of them began
+
+joined-rise : (a : ℕ) (x : Stretch) (ys : List Stretch) → RisesBy 0 a (firsts (x ∷ ys)) → RisesBy 0 a (firsts (joinedFrom x ys))
+unfolding joinedFrom
+joined-rise a x [] p = p
+joined-rise a x (y ∷ ys) p =
+    go (touch x y) (joined-rise a (join x y) ys (p .0, tail 0 (x .first + 0) y ys (p .1))) (joined-rise (x .first + 0) y ys (p .1))
+  where
+    go : (b : Bool) → RisesBy 0 a (firsts (joinedFrom (join x y) ys)) → RisesBy 0 (x .first + 0) (firsts (joinedFrom y ys)) →
+        RisesBy 0 a (firsts (cond b (joinedFrom (join x y) ys) (x ∷ joinedFrom y ys)))
+    go true q r = q
+    go false q r = (p .0, r)
+
+rise-joined : (xs : List Stretch) → RisesBy 0 0 (firsts xs) → RisesBy 0 0 (firsts (joined xs))
+rise-joined [] p = tt
+rise-joined (x ∷ xs) p = joined-rise 0 x xs p
+
+-- ---- of a run
+
 pub report-order : ReportOrder
+unfolding runReport
 report-order =
     record {
-      rises = λ xs. rows-rise 0 0 (loweredStretches xs) (occupiedStretches xs) (lowered-rise xs) (occupied-rise xs);
-      happenedN = λ xs. rows-n (loweredStretches xs) (occupiedStretches xs);
-      happenedO = λ xs. rows-o (loweredStretches xs) (occupiedStretches xs);
+      rises = λ xs. rows-rise 0 0 (loweredStretches xs) (joinedStretches xs) (lowered-rise xs) (rise-joined (occupiedStretches xs) (occupied-rise xs));
+      happenedN = λ xs. rows-n (loweredStretches xs) (joinedStretches xs);
+      happenedO = λ xs. rows-o (loweredStretches xs) (joinedStretches xs);
+      numbered = λ xs. rw (rows-o (loweredStretches xs) (joinedStretches xs));
     }

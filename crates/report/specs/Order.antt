@@ -1,12 +1,15 @@
--- The order of a report's rows (document 01, "Report program"): first instant; N before O if equal; stretches of one kind as they happened.
+-- The order of a report's rows (document 01, "Report program"): first instant; N before O if equal; stretches of one kind as they happened; and
+-- Z after them.
 -- Assumes nothing.
 use Prim.Native.Nat.{ℕ, _<_, _≤_}
 use mathlib.Core.Path.{_≡_}
-use mathlib.Core.List.{List, [], _∷_}
+use mathlib.Core.List.{List, [], _∷_, _++_}
+use lib.ListN.{length}
 use Rattle.runs.specs.declared.Step.{Step}
 use Rattle.stretches.specs.declared.Stretch.{Stretch}
-use Rattle.stretches.specs.Stretches.{loweredStretches, occupiedStretches}
-use Rattle.report.specs.Report.{Row, N, O, runRows}
+use Rattle.stretches.specs.Stretches.{loweredStretches, below}
+use Rattle.report.specs.Touching.{joinedStretches}
+use Rattle.report.specs.Report.{Row, N, O, reportLine, linesOf, runRows, runReport}
 
 -- a row's first instant
 abbrev pub firstOf : Row → ℕ
@@ -43,4 +46,6 @@ rowsO (O x ∷ rs) = x ∷ rowsO rs
 pub record ReportOrder : Type 0 where
   pub rises : (xs : List Step) → Rises (runRows xs)
   pub happenedN : (xs : List Step) → rowsN (runRows xs) ≡ loweredStretches xs
-  pub happenedO : (xs : List Step) → rowsO (runRows xs) ≡ occupiedStretches xs
+  pub happenedO : (xs : List Step) → rowsO (runRows xs) ≡ joinedStretches xs
+  -- Z has the number of the O and o rows before it
+  pub numbered : (xs : List Step) → runReport xs ≡ linesOf (runRows xs) ++ reportLine (length (rowsO (runRows xs))) (length (below xs)) 90

@@ -1,4 +1,4 @@
--- The report of a record text (document 01, "Report program"). Assumes nothing.
+-- The report of a record text (document 01, "Report program"; document 02, Five). Assumes nothing.
 -- Decides beyond it: a buffer too short for an R line is 14 and 0 too; the answer says how many bytes were written.
 use Prim.Native.Nat.{ℕ, _+_}
 use mathlib.Core.Path.{_≡_}
@@ -17,7 +17,8 @@ use Rattle.reader.specs.Read.{readText}
 use Rattle.reader.specs.Round.{runOf}
 use Rattle.report.specs.declared.Reported.{Reported}
 use Rattle.stretches.specs.declared.Stretch.{Stretch}
-use Rattle.stretches.specs.Stretches.{loweredStretches, occupiedStretches, below}
+use Rattle.stretches.specs.Stretches.{loweredStretches, below}
+use Rattle.report.specs.Touching.{joinedStretches}
 
 -- ---- lines
 
@@ -56,11 +57,11 @@ rows (n ∷ ns) (o ∷ os) = cond (leb (n .first) (o .first)) (N n ∷ rows ns (
 
 -- the rows of an accepted run's report
 abbrev pub runRows : List Step → List Row
-runRows xs = rows (loweredStretches xs) (occupiedStretches xs)
+runRows xs = rows (loweredStretches xs) (joinedStretches xs)
 
 -- its report: their lines, and Z with the number of O and o lines and of instants below 5,760
 unfoldable pub runReport : List Step → List ℕ
-runReport xs = linesOf (runRows xs) ++ reportLine (length (occupiedStretches xs)) (length (below xs)) 90
+runReport xs = linesOf (runRows xs) ++ reportLine (length (joinedStretches xs)) (length (below xs)) 90
 
 -- a refused text's report: R alone, with the number and the line
 abbrev pub refusalReport : ℕ → ℕ → List ℕ

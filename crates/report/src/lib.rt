@@ -1,4 +1,5 @@
-// The report of a record: the stretches of its accepted text, one by one off the text, merged and written into a lent buffer.
+// The report of a record: the stretches of its accepted text, one by one off the text, those with a train inside joined where they touch,
+// merged and written into a lent buffer.
 ghost use mathlib.Core.Path.{_≡_};
 ghost use Prim.Native.Nat.{_+_, _*_, _<_, _≤_};
 ghost use mathlib.Core.Bool.{cond};
@@ -10,7 +11,8 @@ ghost use Rattle.reader.specs.Read.{readText};
 ghost use Rattle.reader.specs.Round.{runOf};
 ghost use Rattle.report.specs.Report.{reportLine, stretchLine, runReport, refusalReport, reportOf};
 ghost use Rattle.report.specs.Report.{writtenBytes, shortBuffer, ReportWritten};
-ghost use Rattle.report.specs.Rows.{comesFirst, rowLines, Space};
+ghost use Rattle.report.specs.Touching.{join};
+ghost use Rattle.report.specs.Rows.{touches, Found, JoinsFrom, comesFirst, os, rowLines, Space};
 use settings::Verdict;
 use stretches::Next;
 use stretches::Stretch;
@@ -51,7 +53,62 @@ fn write_stretch(out: &mut [u8], at: usize, capital: u8, x: Stretch)
     write_row(out, at, x.first as u32, x.last as u32, letter);
 }
 
-// Whether the N stretch found comes before the O stretch found.
+// A stretch with some train inside, all that touch it joined to it, and the answer after it.
+struct Joined {
+    stretch: Stretch,
+    next: Next,
+}
+
+// Whether a stretch is found that begins at the instant where x ends.
+fn touches(x: Stretch, o: Next) -> bool
+    ensures { λ r. ⌜ r ≡ touches x o ⌝ }
+{
+    o.found & (x.last == o.stretch.first)
+}
+
+// Two stretches that touch, as one.
+fn join(x: Stretch, y: Stretch) -> Stretch
+    ensures { λ r. ⌜ r ≡ join x y ⌝ }
+{
+    Stretch {
+        first: x.first,
+        last: y.last,
+        running: y.running,
+    }
+}
+
+// The O stretch found, joined with each that touches what is joined so far.
+fn join_from(text: &[u8], o: Next) -> Joined
+    requires { ⌜ Found (now text) o ⌝ }
+    ensures { λ r. ⌜ JoinsFrom (now (text .entry)) o r ⌝ }
+{
+    let mut x = o.stretch;
+    let mut next = stretches::next_occupied(text, o.cursor);
+    while touches(x, next) {
+        x = join(x, next.stretch);
+        next = stretches::next_occupied(text, next.cursor);
+    }
+    Joined {
+        stretch: x,
+        next: next,
+    }
+}
+
+// How many O stretches a text has, joined.
+fn count_joined(text: &[u8]) -> usize
+    ensures { λ r. ⌜ r ≡ length (os (now (text .entry))) ⌝ }
+{
+    let mut count: usize = 0;
+    let mut o = stretches::next_occupied(text, stretches::start());
+    while o.found {
+        let x = join_from(text, o);
+        count = count + 1;
+        o = x.next;
+    }
+    count
+}
+
+// Whether the N stretch found comes before the O stretch found, which begins where all that are joined to it begin.
 fn comes_first(n: Next, o: Next) -> bool
     ensures { λ r. ⌜ r ≡ comesFirst n o ⌝ }
 {
@@ -72,8 +129,9 @@ fn write_rows(text: &[u8], out: &mut [u8])
             n = stretches::next_lowered(text, n.cursor);
             at = at + 19;
         } else {
-            write_stretch(out, at, b'O', o.stretch);
-            o = stretches::next_occupied(text, o.cursor);
+            let x = join_from(text, o);
+            write_stretch(out, at, b'O', x.stretch);
+            o = x.next;
             at = at + 19;
         }
     }
@@ -106,11 +164,11 @@ fn report_text(text: &[u8], out: &mut [u8]) -> Reported
     ensures { λ r. ⌜ ReportWritten (runReport (runOf current (now (text .entry)))) (now (out .entry)) r (now (out .exit)) ⌝ }
 {
     let n = stretches::tally_lowered(text);
-    let o = stretches::tally_occupied(text);
-    let end = 19 * (n.stretches + o.stretches);
+    let joined = count_joined(text);
+    let end = 19 * (n.stretches + joined);
     if end + 19 <= out.len() {
         write_rows(text, out);
-        write_row(out, end, o.stretches as u32, n.instants as u32, b'Z');
+        write_row(out, end, joined as u32, n.instants as u32, b'Z');
         written_bytes(end + 19)
     } else {
         too_short()

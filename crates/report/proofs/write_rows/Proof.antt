@@ -1,13 +1,15 @@
 -- `report::write_rows` meets its contract: `Merging` holds at each row. Assumes nothing.
 use Prim.Native.Nat.{_+_}
 use native.Mathlib.Omega.{arith}
-use mathlib.Core.Path.{sym, _∙_}
+use mathlib.Core.Path.{_≡_, sym, _∙_}
+use mathlib.Core.Bool.{true, false}
 use lib.ListN.{length}
 use borrow.Author.Needs.{needs}
-use Rattle.stretches.specs.declared.Sort.the-variants.{Lowered, Occupied}
+use Rattle.stretches.specs.declared.Sort.the-variants.{Lowered}
 use Rattle.stretches.specs.Walk.{stretchesAhead, headed}
-use Rattle.report.specs.Rows.{Space}
-use Rattle.report.proofs.Merge.{Merging, merging-start, merging-length, room-n, merging-n, less-n, room-o, merging-o, less-o, merging-end}
+use Rattle.report.specs.Touching.{joined}
+use Rattle.report.specs.Rows.{occupiedFrom, comesFirst, Space}
+use Rattle.report.proofs.Merge.{Merging, merging-start, merging-length, room-n, merging-n, less-n, found-o, room-o, merging-o, less-o, merging-end}
 use Rattle.report.proofs.write_rows.Statement.{statement}
 use Rattle.report.proofs.write_rows.Tie as tie
 
@@ -15,7 +17,35 @@ abbrev Inv-loop : tie.InvT-loop
 Inv-loop text out₀ n₀ o₀ at₀ out n o at = (space : Space text out₀) → Merging text out₀ space out n o at
 
 abbrev μ-loop : tie.MeasureT-loop
-μ-loop text out₀ n₀ o₀ at₀ out n o at = length (headed n (stretchesAhead Lowered text (n .cursor))) + length (headed o (stretchesAhead Occupied text (o .cursor)))
+μ-loop text out₀ n₀ o₀ at₀ out n o at = length (headed n (stretchesAhead Lowered text (n .cursor))) + length (joined (occupiedFrom text o))
+
+-- ---- a turn: the N stretch comes first, or the O stretch
+
+abbrev Turn : Type 0
+Turn = tie.At-loop Inv-loop μ-loop
+
+abbrev given : Turn → tie.Start Inv-loop μ-loop
+given c = c .before .before .before .before .before .before .before
+
+abbrev FirstN : Type 0
+FirstN = tie.Then2 Inv-loop μ-loop
+
+abbrev turnN : FirstN → Turn
+turnN c = c .before .before .before .before .before
+
+first-n : (c : FirstN) → comesFirst (turnN c .loop .n) (turnN c .loop .o) ≡ true
+first-n c = sym (c .before .comes-first .ensures) ∙ c .if2 .taken
+
+abbrev FirstO : Type 0
+FirstO = tie.Else2 Inv-loop μ-loop
+
+abbrev turnO : FirstO → Turn
+turnO c = c .before .before .before .before .before
+
+first-o : (c : FirstO) → comesFirst (turnO c .loop .n) (turnO c .loop .o) ≡ false
+first-o c = sym (c .before .comes-first .ensures) ∙ c .if2 .left
+
+-- ---- before the first row
 
 start-requires : tie.Need-start-requires Inv-loop μ-loop
 start-requires c κs = search needs
@@ -37,12 +67,13 @@ loop-holds c =
 comes-first-requires : tie.Need-comes-first-requires Inv-loop μ-loop
 comes-first-requires c κs = search needs
 
+-- ---- an N row
+
 write-stretch-requires : tie.Need-write-stretch-requires Inv-loop μ-loop
 write-stretch-requires c κs =
-    let chosen = c .before .before in
-    let loop = chosen .before .before .before .before .loop in
-    let start = chosen .before .before .before .before .before .before .before .before .before .before .before in
-    let r = room-n _ _ (start .pre) _ _ _ _ (loop .inv (start .pre)) (sym (chosen .comes-first .ensures) ∙ c .before .if2 .taken) in
+    let first = c .before in
+    let space = given (turnN first) .pre in
+    let r = room-n _ _ space _ _ _ _ (turnN first .loop .inv space) (first-n first) in
     (r .0, search needs, r .1, r .2)
 
 next-lowered-requires-2 : tie.Need-next-lowered-requires-2 Inv-loop μ-loop
@@ -50,73 +81,73 @@ next-lowered-requires-2 c κs = search needs
 
 add-at : tie.Need-add-at Inv-loop μ-loop
 add-at c =
-    let chosen = c .before .before .before .before .before .before in
-    let loop = chosen .before .before .before .before .loop in
-    let start = chosen .before .before .before .before .before .before .before .before .before .before .before in
-    let r = room-n _ _ (start .pre) _ _ _ _ (loop .inv (start .pre)) (sym (chosen .comes-first .ensures) ∙ c .before .before .before .before .before .if2 .taken) in
-    omega (arith, r .0, merging-length _ _ (start .pre) _ _ _ _ (loop .inv (start .pre)), start .good)
+    let first = c .before .before .before .before .before in
+    let start = given (turnN first) in
+    let w = turnN first .loop .inv (start .pre) in
+    let r = room-n _ _ (start .pre) _ _ _ _ w (first-n first) in
+    omega (arith, r .0, merging-length _ _ (start .pre) _ _ _ _ w, start .good)
 
 loop-less : tie.Need-loop-less Inv-loop μ-loop
 loop-less c =
-    let chosen = c .before .before .before .before .before .before in
-    let loop = chosen .before .before .before .before .loop in
-    let start = chosen .before .before .before .before .before .before .before .before .before .before .before in
-    less-n _ _ (start .pre) _ _ _ _ (loop .inv (start .pre)) (sym (chosen .comes-first .ensures) ∙ c .before .before .before .before .before .if2 .taken) _ (c .next-lowered2 .ensures)
+    let first = c .before .before .before .before .before in
+    let space = given (turnN first) .pre in
+    less-n _ _ space _ _ _ _ (turnN first .loop .inv space) (first-n first) _ (c .next-lowered2 .ensures)
 
 loop-again : tie.Need-loop-again Inv-loop μ-loop
 loop-again c =
-    let chosen = c .before .before .before .before .before .before in
-    let loop = chosen .before .before .before .before .loop in
-    let start = chosen .before .before .before .before .before .before .before .before .before .before .before in
-    λ space. merging-n _ _ space _ _ _ _ (loop .inv space) (sym (chosen .comes-first .ensures) ∙ c .before .before .before .before .before .if2 .taken) _ (c .before .before .before .write-stretch .ensures) _ (c .next-lowered2 .ensures)
+    let first = c .before .before .before .before .before in
+    λ space. merging-n _ _ space _ _ _ _ (turnN first .loop .inv space) (first-n first) _ (c .before .before .before .write-stretch .ensures) _ (c .next-lowered2 .ensures)
+
+-- ---- an O row
+
+join-from-requires : tie.Need-join-from-requires Inv-loop μ-loop
+join-from-requires c κs =
+    let space = given (turnO c) .pre in
+    found-o _ _ space _ _ _ _ (turnO c .loop .inv space) (c .before .before .if1 .taken) (first-o c)
 
 write-stretch-requires-2 : tie.Need-write-stretch-requires-2 Inv-loop μ-loop
 write-stretch-requires-2 c κs =
-    let chosen = c .before .before in
-    let loop = chosen .before .before .before .before .loop in
-    let start = chosen .before .before .before .before .before .before .before .before .before .before .before in
-    let r = room-o _ _ (start .pre) _ _ _ _ (loop .inv (start .pre)) (chosen .before .if1 .taken) (sym (chosen .comes-first .ensures) ∙ c .before .if2 .left) in
+    let first = c .before .before in
+    let space = given (turnO first) .pre in
+    let r = room-o _ _ space _ _ _ _ (turnO first .loop .inv space) (first .before .before .if1 .taken) (first-o first) _ (c .before .join-from .ensures) in
     (r .0, search needs, r .1, r .2)
-
-next-occupied-requires-2 : tie.Need-next-occupied-requires-2 Inv-loop μ-loop
-next-occupied-requires-2 c κs = search needs
 
 add-at-2 : tie.Need-add-at-2 Inv-loop μ-loop
 add-at-2 c =
-    let chosen = c .before .before .before .before .before .before in
-    let loop = chosen .before .before .before .before .loop in
-    let start = chosen .before .before .before .before .before .before .before .before .before .before .before in
-    let r = room-o _ _ (start .pre) _ _ _ _ (loop .inv (start .pre)) (chosen .before .if1 .taken) (sym (chosen .comes-first .ensures) ∙ c .before .before .before .before .before .if2 .left) in
-    omega (arith, r .0, merging-length _ _ (start .pre) _ _ _ _ (loop .inv (start .pre)), start .good)
+    let joins = c .before .before .before .before .before in
+    let first = joins .before in
+    let start = given (turnO first) in
+    let w = turnO first .loop .inv (start .pre) in
+    let r = room-o _ _ (start .pre) _ _ _ _ w (first .before .before .if1 .taken) (first-o first) _ (joins .join-from .ensures) in
+    omega (arith, r .0, merging-length _ _ (start .pre) _ _ _ _ w, start .good)
 
 loop-less-2 : tie.Need-loop-less-2 Inv-loop μ-loop
 loop-less-2 c =
-    let chosen = c .before .before .before .before .before .before in
-    let loop = chosen .before .before .before .before .loop in
-    let start = chosen .before .before .before .before .before .before .before .before .before .before .before in
-    less-o _ _ (start .pre) _ _ _ _ (loop .inv (start .pre)) (chosen .before .if1 .taken) (sym (chosen .comes-first .ensures) ∙ c .before .before .before .before .before .if2 .left) _ (c .next-occupied2 .ensures)
+    let joins = c .before .before .before .before .before in
+    let first = joins .before in
+    let space = given (turnO first) .pre in
+    less-o _ _ space _ _ _ _ (turnO first .loop .inv space) (first .before .before .if1 .taken) (first-o first) _ (joins .join-from .ensures)
 
 loop-again-2 : tie.Need-loop-again-2 Inv-loop μ-loop
 loop-again-2 c =
-    let at-write-stretch2 = c .before .before .before in
-    let at-if2 = at-write-stretch2 .before .before in
-    let chosen = at-if2 .before in
-    let loop = chosen .before .before .before .before .loop in
-    let start = chosen .before .before .before .before .before .before .before .before .before .before .before in
-    λ space. merging-o _ _ space _ _ _ _ (loop .inv space) (chosen .before .if1 .taken) (sym (chosen .comes-first .ensures) ∙ at-if2 .if2 .left) _
-    (at-write-stretch2 .write-stretch2 .ensures) _ (c .next-occupied2 .ensures)
+    let joins = c .before .before .before .before .before in
+    let first = joins .before in
+    λ space. merging-o _ _ space _ _ _ _ (turnO first .loop .inv space) (first .before .before .if1 .taken) (first-o first) _ (joins .join-from .ensures) _
+    (c .before .before .before .write-stretch2 .ensures)
+
+-- ---- after the last
 
 same-length : tie.Need-same-length Inv-loop μ-loop
 same-length c =
-    let loop = c .before .before .before .loop in
-    let start = c .before .before .before .before .before .before .before .before .before .before in
-    merging-length _ _ (start .pre) _ _ _ _ (loop .inv (start .pre))
+    let turn : Turn = c .before .before .before in
+    let space = given turn .pre in
+    merging-length _ _ space _ _ _ _ (turn .loop .inv space)
 
 returns : tie.Need-returns Inv-loop μ-loop
 returns c =
-    let loop = c .before .before .before .loop in
-    let start = c .before .before .before .before .before .before .before .before .before .before in
-    merging-end _ _ (start .pre) _ _ _ _ (loop .inv (start .pre)) (c .if1 .left)
+    let turn : Turn = c .before .before .before in
+    let space = given turn .pre in
+    merging-end _ _ space _ _ _ _ (turn .loop .inv space) (c .if1 .left)
 
 pub write-rows-spec : {M : Type 1} → statement M
 write-rows-spec =
@@ -135,8 +166,8 @@ write-rows-spec =
     add-at
     loop-less
     loop-again
+    join-from-requires
     write-stretch-requires-2
-    next-occupied-requires-2
     add-at-2
     loop-less-2
     loop-again-2
