@@ -1,5 +1,5 @@
 // The bench cases a to m of document 01 through the built functions, one line each; what the bench shows along its sample run, and a cabinet
-// alone; trains of four kinds; the train of a lower; and its sample record with the report.
+// alone; trains of four kinds; the train of a lower; reports of stretches that touch; and its sample record with the report.
 // A step shows 0 (taken with no command), D with its train or U (taken, with that command) or its refusal number; `second/expected` has the
 // same lines.
 use arm::Gate;
@@ -485,6 +485,167 @@ fn named_of_two() {
     );
 }
 
+// ---- stretches that touch
+
+// The report of a list of at most 16 steps from a fresh bench under K; its record and its report fill the two buffers.
+fn show_report(
+    letters: &[u8],
+    numbers: &[u32],
+    readings: &[f32],
+    text: &mut [u8],
+    lines: &mut [u8],
+) {
+    let mut answers = [0u8; 16];
+    let mut orders = [0u8; 16];
+    let mut named = [0u32; 16];
+    recording::record_run(
+        worked::settings_k(),
+        letters,
+        numbers,
+        readings,
+        &mut answers,
+        &mut orders,
+        &mut named,
+        text,
+    );
+    report::report(text, lines);
+    print(b"\n");
+    print(lines);
+}
+
+// Train 2 goes inside at the instant where train 1 leaves; trains 2 and 3 in the same way after train 1.
+fn joined_ended() {
+    print(b"touching");
+    show_report(
+        b"AATTTOTLOTLT",
+        &[1u32, 2, 0, 0, 0, 1, 0, 1, 2, 0, 2, 0],
+        &[
+            0.0f32,
+            0.0,
+            90.0,
+            45.0,
+            0.0,
+            0.0,
+            0.0,
+            0.0,
+            0.0,
+            0.0,
+            0.0,
+            90.0,
+        ],
+        &mut [0u8; 435],
+        &mut [0u8; 57],
+    );
+    print(b"chain");
+    show_report(
+        b"AATATTOTLOTLOTLT",
+        &[1u32, 2, 0, 3, 0, 0, 1, 0, 1, 2, 0, 2, 3, 0, 3, 0],
+        &[
+            0.0f32,
+            0.0,
+            90.0,
+            0.0,
+            45.0,
+            0.0,
+            0.0,
+            0.0,
+            0.0,
+            0.0,
+            0.0,
+            0.0,
+            0.0,
+            0.0,
+            0.0,
+            90.0,
+        ],
+        &mut [0u8; 495],
+        &mut [0u8; 57],
+    );
+}
+
+// Train 2 is still inside when the record ends; and it is inside for no tick between trains 1 and 3.
+fn joined_running() {
+    print(b"running");
+    show_report(
+        b"AATTTOTLOT",
+        &[1u32, 2, 0, 0, 0, 1, 0, 1, 2, 0],
+        &[0.0f32, 0.0, 90.0, 45.0, 0.0, 0.0, 0.0, 0.0, 0.0, 0.0],
+        &mut [0u8; 390],
+        &mut [0u8; 57],
+    );
+    print(b"instant");
+    show_report(
+        b"AAATTTOTLOLOTLT",
+        &[1u32, 2, 3, 0, 0, 0, 1, 0, 1, 2, 2, 3, 0, 3, 0],
+        &[
+            0.0f32,
+            0.0,
+            0.0,
+            90.0,
+            45.0,
+            0.0,
+            0.0,
+            0.0,
+            0.0,
+            0.0,
+            0.0,
+            0.0,
+            0.0,
+            0.0,
+            90.0,
+        ],
+        &mut [0u8; 480],
+        &mut [0u8; 57],
+    );
+}
+
+// Train 2 goes inside before train 1 leaves, one stretch without joining; and a tick after it, two.
+fn not_joined() {
+    print(b"overlap");
+    show_report(
+        b"AATTTOTOLTLT",
+        &[1u32, 2, 0, 0, 0, 1, 0, 2, 1, 0, 2, 0],
+        &[
+            0.0f32,
+            0.0,
+            90.0,
+            45.0,
+            0.0,
+            0.0,
+            0.0,
+            0.0,
+            0.0,
+            0.0,
+            0.0,
+            90.0,
+        ],
+        &mut [0u8; 435],
+        &mut [0u8; 57],
+    );
+    print(b"gap");
+    show_report(
+        b"ATATTOTLTOTLT",
+        &[1u32, 0, 2, 0, 0, 1, 0, 1, 0, 2, 0, 2, 0],
+        &[
+            0.0f32,
+            90.0,
+            0.0,
+            45.0,
+            0.0,
+            0.0,
+            0.0,
+            0.0,
+            0.0,
+            0.0,
+            0.0,
+            0.0,
+            90.0,
+        ],
+        &mut [0u8; 450],
+        &mut [0u8; 76],
+    );
+}
+
 // ---- the sample record
 
 // The sample, whole, and its report: 25 lines of 15 bytes, and 3 of 19.
@@ -530,5 +691,8 @@ fn main() {
     kinds_alone();
     named_first();
     named_of_two();
+    joined_ended();
+    joined_running();
+    not_joined();
     sample();
 }

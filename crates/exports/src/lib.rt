@@ -381,7 +381,8 @@ pub extern "C" fn weqhaso_next_lowered(text: &[u8], places: &mut [usize]) -> u8
     next_into(Sort::Lowered, text, places)
 }
 
-// The next stretch with some train inside (`stretches::next_occupied`), in the same way.
+// The next stretch with some train inside (`stretches::next_occupied`), in the same way, as they happened: where one begins at the instant
+// where the one before it ended, the report joins them.
 #[no_mangle]
 pub extern "C" fn weqhaso_next_occupied(text: &[u8], places: &mut [usize]) -> u8
     ensures { λ r. ⌜ Placed (nextNumbers (nextFrom Occupied (now (text .entry)) (cursorIn (now (places .entry)))))
