@@ -164,8 +164,9 @@ fn report_text(text: &[u8], out: &mut [u8]) -> Reported
     ensures { λ r. ⌜ ReportWritten (runReport (runOf current (now (text .entry)))) (now (out .entry)) r (now (out .exit)) ⌝ }
 {
     let n = stretches::tally_lowered(text);
+    let lowered = n.stretches;
     let joined = count_joined(text);
-    let end = 19 * (n.stretches + joined);
+    let end = 19 * (lowered + joined);
     if end + 19 <= out.len() {
         write_rows(text, out);
         write_row(out, end, joined as u32, n.instants as u32, b'Z');

@@ -27,32 +27,33 @@ count-joined-requires : tie.Need-count-joined-requires
 count-joined-requires c κs = search needs
 
 add-end : tie.Need-add-end
-add-end c = let l = few (c .before) in omega (arith, l .0, l .2, given (c .before) .pre .0)
+add-end c = let l = few c in omega (arith, l .0, l .2, given c .pre .0)
 
 mul-end : tie.Need-mul-end
-mul-end c = let l = few (c .before) in omega (arith, l .0, l .2, given (c .before) .pre .0)
+mul-end c = let l = few c in omega (arith, l .0, l .2, given c .pre .0)
 
 add-if1 : tie.Need-add-if1
-add-if1 c = let l = few (c .before) in omega (arith, l .0, l .2, given (c .before) .pre .0)
+add-if1 c = let l = few c in omega (arith, l .0, l .2, given c .pre .0)
 
 write-rows-requires : tie.Need-write-rows-requires
 write-rows-requires c κs =
-    let counted = c .before .before .before in
+    let counted = c .before .before in
     counted-space _ _ _ (counted .before .tally-lowered .ensures) (counted .count-joined .ensures) (given counted .args .out .now) (given counted .pre .0) (omega (arith, c .before .if1 .taken))
 
 cast-write-row : tie.Need-cast-write-row
 cast-write-row c =
-    let counted = c .before .before .before .before .before .before .before in
-    omega (arith, few counted .2, given counted .pre .0)
+    let counted = c .before .before .before .before .before .before in
+    let l = few counted in
+    omega (arith, l .0, l .2, given counted .pre .0)
 
 cast-write-row-2 : tie.Need-cast-write-row-2
 cast-write-row-2 c =
-    let counted = c .before .before .before .before .before .before .before .before in
+    let counted = c .before .before .before .before .before .before .before in
     omega (arith, few counted .1, given counted .pre .0)
 
 write-row-requires : tie.Need-write-row-requires
 write-row-requires c κs =
-    let counted = c .before .before .before .before .before .before .before .before in
+    let counted = c .before .before .before .before .before .before .before in
     let l = few counted in
     omega (arith, l .0, l .1, l .2, given counted .pre .0)
 
@@ -71,13 +72,13 @@ same-length c = search needs
 returns : tie.Need-returns
 returns c =
     let rows = c .before .before .before .before .before .before .before .before in
-    let counted = rows .before .before .before .before in
+    let counted = rows .before .before .before in
     run-written _ _ _ (counted .before .tally-lowered .ensures) (counted .count-joined .ensures) (given counted .pre .1) (given counted .args .out .now) _
     (omega (arith, rows .before .before .if1 .taken)) _ _ (rows .write-rows .ensures) (c .before .before .before .write-row .ensures) (c .written-bytes .ensures)
 
 returns-2 : tie.Need-returns-2
 returns-2 c =
-    let counted = c .before .before .before in
+    let counted = c .before .before in
     run-none _ _ _ (counted .before .tally-lowered .ensures) (counted .count-joined .ensures) (given counted .pre .1) (given counted .args .out .now) _ (omega (arith, c .before .if1 .left)) (c .too-short .ensures)
 
 pub report-text-spec : {M : Type 1} → statement M
