@@ -3,11 +3,11 @@ use Prim.Native.Nat.{ℕ, suc, _+_, _-_, _≤_, _<_}
 use native.Mathlib.Nat.{zero-add}
 use native.Mathlib.Omega.{arith}
 use mathlib.Core.Path.{_≡_, refl, sym, ap, _∙_}
-use mathlib.Core.Bool.{Bool, true, false, cond, _&&_, true≢false}
+use mathlib.Core.Bool.{Bool, true, false, cond, _&&_}
 use mathlib.Core.List.{List, [], _∷_}
-use lib.Dec.{eqb}
 use lib.ListN.{length}
 use borrow.Author.Tests.{eqb-true}
+use Rattle.lines.proofs.Tests.{both}
 use Rattle.stretches.specs.declared.Next.{Next}
 use Rattle.stretches.specs.declared.Sort.the-variants.{Occupied}
 use Rattle.stretches.specs.declared.Stretch.{Stretch}
@@ -60,10 +60,6 @@ found-heads t o = go (o .found) refl
     go false f = f
 
 -- ---- the loop
-
-pub both : (a b : Bool) → (a && b) ≡ true → (a ≡ true) × (b ≡ true)
-both true b e = (refl, e)
-both false b e = absurd (true≢false (sym e))
 
 module _ (t : List ℕ) where
   -- the answer after a stretch has those after it

@@ -3,59 +3,39 @@ use Prim.Native.Nat.{ℕ, _+_, _≤_, _<_}
 use native.Mathlib.Nat.{zero-add}
 use native.Mathlib.Omega.{arith}
 use mathlib.Core.Path.{_≡_, refl, sym, ap, _∙_}
-use mathlib.Core.Bool.{Bool, true, false, cond, _&&_, _||_, true≢false}
+use mathlib.Core.Bool.{Bool, true, false, cond, _&&_, _||_}
 use mathlib.Core.List.{List, [], _∷_, _++_}
 use lib.Dec.{leb, eqb}
 use borrow.Author.Tests.{leb-true, leb-false, le-leb, lt-leb, eqb-true, eqb-false, eq-eqb}
+use Rattle.lines.proofs.Tests.{both}
 use Rattle.runs.specs.declared.Step.{Step}
 use Rattle.runs.specs.declared.Step.the-variants.{Approach, Occupy, Leave, Clock}
 use Rattle.runs.specs.History.{History, instant}
 use Rattle.stretches.specs.declared.Stretch.{Stretch}
-use Rattle.stretches.specs.Stretches.{ended, running, none, since, laterMoments, moments, stretchesFrom, someInside, occupiedStretches}
-use Rattle.report.proofs.Joining.{both}
-use Rattle.report.specs.Touching.{touch, join, joinedFrom, joined, joinedStretches, Follow, Apart, liesIn, howMany, insideAt, lastRunning, lastInside, JoinedOnce}
-
--- ---- stretches that do not go back
-
--- each in order, and from the instant a on, or where the one before it ended
-abbrev Onward : ℕ → List Stretch → Type 0
-Onward a [] = Unit {0}
-Onward a (x ∷ xs) = (a ≤ x .first) × (x .first ≤ x .last) × Onward (x .last) xs
-
-onward-lower : (a b : ℕ) (xs : List Stretch) → a ≤ b → Onward b xs → Onward a xs
-onward-lower a b [] l p = tt
-onward-lower a b (x ∷ xs) l p = (omega (arith, p .0), p .1, p .2)
+use Rattle.stretches.specs.Stretches.{ended, none, since, laterMoments, moments, stretchesFrom, someInside, occupiedStretches, Spaced}
+use Rattle.stretches.proofs.Spaced.{occupied-spaced}
+use Rattle.report.specs.Touching.{touch, join, joinedFrom, joined, joinedStretches, liesIn, howMany, insideAt, lastRunning, lastInside, JoinedOnce}
 
 -- ---- apart
 
-module _ (x y : Stretch) (ys : List Stretch) (o : x .first ≤ x .last) (p : Onward (x .last) (y ∷ ys)) where
-  -- two as one end where the second ends
-  join-onward : (x .first ≤ y .last) × Onward (y .last) ys
-  join-onward = (omega (arith, o, p .0, p .1), p .2)
+-- as they happened the stretches do not go back; joined, they are apart
+module _ (a : ℕ) (x y : Stretch) (ys : List Stretch) (p : Spaced 0 a (x ∷ y ∷ ys)) where
+  join-spaced : Spaced 0 a (join x y ∷ ys)
+  join-spaced = (p .0, omega (arith, p .1, p .2 .0, p .2 .1), p .2 .2)
 
-  -- two that do not touch
-  touch-no : touch x y ≡ false → x .last < y .first
-  touch-no e = let z = eqb-false (x .last) (y .first) e in omega (arith, p .0)
+  touch-no : touch x y ≡ false → x .last + 1 ≤ y .first
+  touch-no e = let z = eqb-false (x .last) (y .first) e in omega (arith, p .2 .0)
 
-joined-follow : (w x : Stretch) (ys : List Stretch) → w .last < x .first → x .first ≤ x .last → Onward (x .last) ys → Follow w (joinedFrom x ys)
+joined-spaced : (a : ℕ) (x : Stretch) (ys : List Stretch) → Spaced 0 a (x ∷ ys) → Spaced 1 a (joinedFrom x ys)
 unfolding joinedFrom
-joined-follow w x [] l o p = (l, tt)
-joined-follow w x (y ∷ ys) l o p =
-    go (touch x y) refl (let j = join-onward x y ys o p in joined-follow w (join x y) ys l (j .0) (j .1)) (λ m. joined-follow x y ys m (p .1) (p .2))
+joined-spaced a x [] p = p
+joined-spaced a x (y ∷ ys) p =
+    go (touch x y) refl (joined-spaced a (join x y) ys (join-spaced a x y ys p)) (λ l. joined-spaced (x .last + 1) y ys (l, p .2 .1, p .2 .2))
   where
-    go : (b : Bool) → touch x y ≡ b → Follow w (joinedFrom (join x y) ys) → (x .last < y .first → Follow x (joinedFrom y ys)) →
-        Follow w (cond b (joinedFrom (join x y) ys) (x ∷ joinedFrom y ys))
+    go : (b : Bool) → touch x y ≡ b → Spaced 1 a (joinedFrom (join x y) ys) → (x .last + 1 ≤ y .first → Spaced 1 (x .last + 1) (joinedFrom y ys)) →
+        Spaced 1 a (cond b (joinedFrom (join x y) ys) (x ∷ joinedFrom y ys))
     go true e q r = q
-    go false e q r = (l, r (touch-no x y ys o p e))
-
-joined-apart : (x : Stretch) (ys : List Stretch) → x .first ≤ x .last → Onward (x .last) ys → Apart (joinedFrom x ys)
-unfolding joinedFrom
-joined-apart x [] o p = tt
-joined-apart x (y ∷ ys) o p = go (touch x y) refl (let j = join-onward x y ys o p in joined-apart (join x y) ys (j .0) (j .1))
-  where
-    go : (b : Bool) → touch x y ≡ b → Apart (joinedFrom (join x y) ys) → Apart (cond b (joinedFrom (join x y) ys) (x ∷ joinedFrom y ys))
-    go true e q = q
-    go false e q = joined-follow x y ys (touch-no x y ys o p e) (p .1) (p .2)
+    go false e q r = (p .0, p .1, r (touch-no a x y ys p e))
 
 -- ---- each instant once
 
@@ -75,18 +55,8 @@ or-assoc false b c = refl
 abbrev between : ℕ → ℕ → ℕ → Bool
 between n a b = leb a n && leb n b
 
-between-yes : (n a b : ℕ) → a ≤ n → n ≤ b → between n a b ≡ true
-between-yes n a b l m = rw (le-leb a n l, le-leb n b m)
-
 between-before : (n a b : ℕ) → n < a → between n a b ≡ false
 between-before n a b l = rw (lt-leb a n l)
-
-between-after : (n a b : ℕ) → b < n → between n a b ≡ false
-between-after n a b l = go (leb a n)
-  where
-    go : (c : Bool) → (c && leb n b) ≡ false
-    go true = lt-leb n b l
-    go false = refl
 
 -- two as one have the instants of both
 between-join : (n a b c : ℕ) → a ≤ b → b ≤ c → between n a c ≡ (between n a b || between n b c)
@@ -125,37 +95,37 @@ between-same n a = go (leb a n) (leb n a) (eqb a n) refl refl refl
     go false y false p q r = refl
 
 -- before the first there is none
-none-before : (n a : ℕ) (xs : List Stretch) → n < a → Onward a xs → someIn n xs ≡ false
+none-before : (n a : ℕ) (xs : List Stretch) → n < a → Spaced 0 a xs → someIn n xs ≡ false
 none-before n a [] l p = refl
-none-before n a (x ∷ xs) l p = rw (between-before n (x .first) (x .last) (omega (arith, p .0))) (none-before n (x .last) xs (omega (arith, p .0, p .1)) (p .2))
+none-before n a (x ∷ xs) l p = rw (between-before n (x .first) (x .last) (omega (arith, p .0))) (none-before n (x .last + 0) xs (omega (arith, p .0, p .1)) (p .2))
 
-joined-many : (n : ℕ) (x : Stretch) (ys : List Stretch) → x .first ≤ x .last → Onward (x .last) ys → howMany n (joinedFrom x ys) ≡ number (liesIn n x || someIn n ys)
+joined-many : (n a : ℕ) (x : Stretch) (ys : List Stretch) → Spaced 0 a (x ∷ ys) → howMany n (joinedFrom x ys) ≡ number (liesIn n x || someIn n ys)
 unfolding joinedFrom howMany
-joined-many n x [] o p = go (liesIn n x)
+joined-many n a x [] p = go (liesIn n x)
   where
     go : (b : Bool) → number b + 0 ≡ number (b || false)
     go true = refl
     go false = refl
-joined-many n x (y ∷ ys) o p =
-    go (touch x y) refl (let j = join-onward x y ys o p in joined-many n (join x y) ys (j .0) (j .1)) (joined-many n y ys (p .1) (p .2))
+joined-many n a x (y ∷ ys) p =
+    go (touch x y) refl (joined-many n a (join x y) ys (join-spaced a x y ys p)) (joined-many n (x .last + 0) y ys (p .2))
   where
     -- the two as one
     one : touch x y ≡ true → (liesIn n (join x y) || someIn n ys) ≡ (liesIn n x || (liesIn n y || someIn n ys))
     one e =
         let q = eqb-true (x .last) (y .first) e in
-        ap (λ (b : Bool). b || someIn n ys) (between-join n (x .first) (x .last) (y .last) o (omega (arith, q, p .1)) ∙ ap (λ (k : ℕ). liesIn n x || between n k (y .last)) q)
+        ap (λ (b : Bool). b || someIn n ys) (between-join n (x .first) (x .last) (y .last) (p .1) (omega (arith, p .2 .0, p .2 .1)) ∙ ap (λ (k : ℕ). liesIn n x || between n k (y .last)) q)
         ∙ or-assoc (liesIn n x) (liesIn n y) (someIn n ys)
 
     -- or the first before all the others
-    two : (b : Bool) → liesIn n x ≡ b → x .last < y .first → number b + number (liesIn n y || someIn n ys) ≡ number (b || (liesIn n y || someIn n ys))
-    two true e l = rw (none-before n (y .first) (y ∷ ys) (omega (arith, leb-true n (x .last) (both (leb (x .first) n) (leb n (x .last)) e .1))) (omega arith, p .1, p .2))
+    two : (b : Bool) → liesIn n x ≡ b → x .last + 1 ≤ y .first → number b + number (liesIn n y || someIn n ys) ≡ number (b || (liesIn n y || someIn n ys))
+    two true e l = rw (none-before n (y .first) (y ∷ ys) (omega (arith, leb-true n (x .last) (both (leb (x .first) n) (leb n (x .last)) e .1))) (omega arith, p .2 .1, p .2 .2))
     two false e l = zero-add _
 
     go : (b : Bool) → touch x y ≡ b → howMany n (joinedFrom (join x y) ys) ≡ number (liesIn n (join x y) || someIn n ys) →
         howMany n (joinedFrom y ys) ≡ number (liesIn n y || someIn n ys) →
         howMany n (cond b (joinedFrom (join x y) ys) (x ∷ joinedFrom y ys)) ≡ number (liesIn n x || (liesIn n y || someIn n ys))
     go true e q r = q ∙ ap number (one e)
-    go false e q r = ap (λ (k : ℕ). number (liesIn n x) + k) r ∙ two (liesIn n x) refl (touch-no x y ys o p e)
+    go false e q r = ap (λ (k : ℕ). number (liesIn n x) + k) r ∙ two (liesIn n x) refl (touch-no a x y ys p e)
 
 -- ---- off the moments
 
@@ -181,19 +151,6 @@ outside hs = stretchesFrom someInside none hs
 
 abbrev going : ℕ → ℕ → List History → List Stretch
 going f a hs = stretchesFrom someInside (since f a) hs
-
--- the stretches do not go back
-inside-onward : (a : ℕ) (hs : List History) → Steady a hs →
-    Onward a (outside hs) × ((f : ℕ) → f ≤ a → Onward f (going f a hs))
-unfolding stretchesFrom
-inside-onward a [] p = (tt, λ f l. (omega arith, l, tt))
-inside-onward a (h ∷ hs) p = go (someInside h) (inside-onward (instant h) hs (p .2))
-  where
-    go : (b : Bool) → Onward (instant h) (outside hs) × ((f : ℕ) → f ≤ instant h → Onward f (going f (instant h) hs)) →
-        Onward a (cond b (going (instant h) (instant h) hs) (outside hs))
-        × ((f : ℕ) → f ≤ a → Onward f (cond b (going f (instant h) hs) (ended f a ∷ outside hs)))
-    go true q = (onward-lower a (instant h) (going (instant h) (instant h) hs) (p .0) (q .1 (instant h) (omega arith)), λ f l. q .1 f (omega (arith, p .0)))
-    go false q = (onward-lower a (instant h) (outside hs) (p .0) (q .0), λ f l. (omega arith, l, onward-lower a (instant h) (outside hs) (p .0) (q .0)))
 
 -- they have the instants with a train inside, and no others
 inside-in : (n a : ℕ) (hs : List History) → Steady a hs →
@@ -253,30 +210,27 @@ inside-there h (k ∷ before) after e = go (someInside k && eqb (instant k) (ins
     go true q = refl
     go false q = q
 
-apart-all : (xs : List Stretch) → Onward 0 xs → Apart (joined xs)
+apart-all : (xs : List Stretch) → Spaced 0 0 xs → Spaced 1 0 (joined xs)
 apart-all [] p = tt
-apart-all (x ∷ xs) p = joined-apart x xs (p .1) (p .2)
+apart-all (x ∷ xs) p = joined-spaced 0 x xs p
 
-many-all : (n : ℕ) (xs : List Stretch) → Onward 0 xs → howMany n (joined xs) ≡ number (someIn n xs)
+many-all : (n : ℕ) (xs : List Stretch) → Spaced 0 0 xs → howMany n (joined xs) ≡ number (someIn n xs)
 unfolding howMany
 many-all n [] p = refl
-many-all n (x ∷ xs) p = joined-many n x xs (p .1) (p .2)
+many-all n (x ∷ xs) p = joined-many n 0 x xs p
 
 last-all : (xs : List Stretch) → lastRunning false (joined xs) ≡ lastRunning false xs
 last-all [] = refl
 last-all (x ∷ xs) = joined-last false x xs
 
 module _ (xs : List Step) where
-  occupied-onward : Onward 0 (occupiedStretches xs)
-  occupied-onward = inside-onward 0 (moments xs) (moments-steady xs) .0
-
   run-instants : (n : ℕ) → howMany n (joinedStretches xs) ≡ number (insideAt n (moments xs))
-  run-instants n = many-all n (occupiedStretches xs) occupied-onward ∙ ap number (inside-in n 0 (moments xs) (moments-steady xs) .0)
+  run-instants n = many-all n (occupiedStretches xs) (occupied-spaced xs) ∙ ap number (inside-in n 0 (moments xs) (moments-steady xs) .0)
 
 pub joined-once : JoinedOnce
 joined-once =
     record {
-      apart = λ xs. apart-all (occupiedStretches xs) (occupied-onward xs);
+      apart = λ xs. apart-all (occupiedStretches xs) (occupied-spaced xs);
       instants = run-instants;
       inside = λ xs before h after p e. run-instants xs (instant h) ∙ ap number (ap (insideAt (instant h)) p ∙ inside-there h before after e);
       running = λ xs. last-all (occupiedStretches xs) ∙ inside-last (moments xs) .0;

@@ -16,10 +16,11 @@ abbrev pub firstOf : Row → ℕ
 firstOf (N x) = x .first
 firstOf (O x) = x .first
 
--- a row may stand before an N that begins later, and before an O that begins later or at the same instant: so N before O if equal
+-- a row stands before one that begins later, and an N also before an O that begins at the same instant: so N before O if equal
 abbrev pub Before : Row → Row → Type 0
 Before r (N x) = firstOf r < x .first
-Before r (O x) = firstOf r ≤ x .first
+Before (N y) (O x) = y .first ≤ x .first
+Before (O y) (O x) = y .first < x .first
 
 -- before each of these
 abbrev pub BeforeAll : Row → List Row → Type 0

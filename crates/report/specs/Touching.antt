@@ -1,6 +1,6 @@
 -- Touching stretches are one (document 02, Five): the report joins stretches with a train inside where one ends at the instant the next begins.
 -- The stretches are those that `Stretches` reads off the moments; N stretches are not joined. Assumes nothing.
-use Prim.Native.Nat.{ℕ, _+_, _<_}
+use Prim.Native.Nat.{ℕ, _+_}
 use mathlib.Core.Path.{_≡_}
 use mathlib.Core.Bool.{Bool, true, false, cond, _&&_, _||_}
 use mathlib.Core.List.{List, [], _∷_, _++_}
@@ -8,7 +8,7 @@ use lib.Dec.{leb, eqb}
 use Rattle.runs.specs.declared.Step.{Step}
 use Rattle.runs.specs.History.{History, instant}
 use Rattle.stretches.specs.declared.Stretch.{Stretch}
-use Rattle.stretches.specs.Stretches.{moments, someInside, occupiedStretches}
+use Rattle.stretches.specs.Stretches.{moments, someInside, occupiedStretches, Spaced}
 
 -- ---- joining
 
@@ -35,15 +35,6 @@ joinedStretches xs = joined (occupiedStretches xs)
 
 -- ---- what joining gives
 
--- each begins after the instant where the one before it ended
-abbrev pub Follow : Stretch → List Stretch → Type 0
-Follow x [] = Unit {0}
-Follow x (y ∷ ys) = (x .last < y .first) × Follow y ys
-
-abbrev pub Apart : List Stretch → Type 0
-Apart [] = Unit {0}
-Apart (x ∷ xs) = Follow x xs
-
 -- an instant lies in a stretch: from its first to its last
 abbrev pub liesIn : ℕ → Stretch → Bool
 liesIn n x = leb (x .first) n && leb n (x .last)
@@ -69,8 +60,8 @@ lastInside b (h ∷ hs) = lastInside (someInside h) hs
 
 -- the joined stretches of every run
 pub record JoinedOnce : Type 0 where
-  -- no two touch
-  pub apart : (xs : List Step) → Apart (joinedStretches xs)
+  -- no two touch: each begins after the instant where the one before it ended
+  pub apart : (xs : List Step) → Spaced 1 0 (joinedStretches xs)
   -- an instant with a train inside, at whichever of its moments, lies in just one of them, and any other instant in none
   pub instants : (xs : List Step) (n : ℕ) → howMany n (joinedStretches xs) ≡ cond (insideAt n (moments xs)) 1 0
   -- so does every moment with a train inside
