@@ -24,15 +24,20 @@
 // every step of a train, through all these functions, with a count of how often they do. A lower names the soonest one: so some of
 // these lists let trains of several kinds come due in one tick, and it is counted how often a lower named one of several due in its
 // tick, and one that another look would not have named.
+//
+// The report joins stretches with a train inside that touch; one by one they are given as they happened. So in some of the lists
+// trains hand the crossing over, one leaving and the next going inside at one instant; their records also end at any step, or are
+// damaged. Over all texts it is counted how often the report joins stretches, and of what sorts.
 
 #[allow(dead_code)]
 #[path = "../second/second.rs"]
 mod second;
 
 use second::{
-    angles_of, check, lowered_runs, occupied_stretches, read, record_line, record_of, report,
-    report_into, ticks_for, Bench, Cabinet, Command, Gate, Kind, Recorder, Standing, Stretch,
-    FIRST_STEP_LINE, FULL, K, KINDS, LAST_INSTANT, LAST_LINE, LINE_BYTES, LONGEST_TEXT, SETTINGS,
+    angles_of, check, joined, lowered_runs, occupied_stretches, read, record_line, record_of,
+    report, report_into, ticks_for, Bench, Cabinet, Command, Gate, Kind, Recorder, Run, Standing,
+    Stretch, FIRST_STEP_LINE, FULL, K, KINDS, LAST_INSTANT, LAST_LINE, LINE_BYTES, LONGEST_TEXT,
+    SETTINGS,
 };
 
 extern "C" {
@@ -149,6 +154,7 @@ const LONGER_TEXTS: u32 = 40;
 const HAND_LISTS: u32 = 1_500;
 const FULL_YARDS: u32 = 100;
 const MEETINGS: u32 = 300;
+const CONVOYS: u32 = 600;
 const HEARD_LISTS: u32 = 3_000;
 const WHOLE: u64 = 99;
 const UNTOUCHED: u8 = 99;
@@ -1044,17 +1050,17 @@ fn walked(r: &mut Random, text: &[u8], next: Next) -> Option<Vec<Stretch>> {
 
 // Whether the library gives the stretches of an accepted text as the second program has them, and the instants below 90 degrees;
 // on a refused text it only has to come to an end.
-fn same_stretches(r: &mut Random, text: &[u8]) -> bool {
+fn same_stretches(r: &mut Random, text: &[u8], run: Option<&Run>) -> bool {
     let lowered = walked(r, text, weqhaso_next_lowered);
     let occupied = walked(r, text, weqhaso_next_occupied);
     let below = unsafe { weqhaso_below(text.as_ptr(), text.len()) };
-    let Ok(run) = read(text) else {
+    let Some(run) = run else {
         return lowered.is_some() && occupied.is_some();
     };
-    let angles = angles_of(&run);
+    let angles = angles_of(run);
     let want_below = angles.iter().filter(|(_, angle)| *angle < FULL).count();
     let same = lowered == Some(lowered_runs(&angles))
-        && occupied == Some(occupied_stretches(&run))
+        && occupied == Some(occupied_stretches(run))
         && below == want_below;
     if !same {
         println!("stretches: {lowered:?}, {occupied:?}, {below} below 90 degrees got");
@@ -1063,11 +1069,71 @@ fn same_stretches(r: &mut Random, text: &[u8]) -> bool {
     same
 }
 
+// All texts that are compared; accepted ones whose report joins stretches; the wholes: of two, of three or more, of six or more,
+// with one of a single instant between the first and the last, still running, and running with the last begun at the record's last
+// instant; neighbours that are one tick apart and stay two.
+#[derive(Default, Debug)]
+struct Joins {
+    texts: u32,
+    joining: u32,
+    wholes: [u32; 6],
+    apart: u32,
+}
+
+impl Joins {
+    // A text, and its run if it is accepted. Stretches of a text that is too long are not reported.
+    fn count(&mut self, text: &[u8], run: Option<&Run>) {
+        self.texts += 1;
+        if let Some(run) = run.filter(|_| text.len() <= LONGEST_TEXT) {
+            self.count_stretches(&occupied_stretches(run));
+        }
+    }
+
+    fn count_stretches(&mut self, stretches: &[Stretch]) {
+        let wholes = joined(stretches);
+        self.joining += (wholes.len() < stretches.len()) as u32;
+        let apart = |two: &&[Stretch]| two[0].last + 1 == two[1].first;
+        self.apart += wholes.windows(2).filter(apart).count() as u32;
+        for whole in wholes {
+            let mut parts = stretches.to_vec();
+            parts.retain(|part| whole.first <= part.first && part.last <= whole.last);
+            if parts.len() >= 2 {
+                self.count_one(whole, &parts);
+            }
+        }
+    }
+
+    fn count_one(&mut self, whole: Stretch, parts: &[Stretch]) {
+        let many = parts.len();
+        let one_instant = |part: &Stretch| part.first == part.last;
+        let is = [
+            many == 2,
+            many >= 3,
+            many >= 6,
+            parts[1..many - 1].iter().any(one_instant),
+            whole.running,
+            whole.running && one_instant(&parts[many - 1]),
+        ];
+        for (n, is) in self.wholes.iter_mut().zip(is) {
+            *n += is as u32;
+        }
+    }
+
+    fn check_enough(&self) {
+        let least = [3_200, 3_000, 750, 1_800, 900, 480];
+        let enough = self.wholes.iter().zip(least).all(|(n, least)| *n >= least);
+        assert!(enough, "{self:?}, at least {least:?}");
+        assert!(self.joining >= 2_300 && self.apart >= 3_100, "{self:?}");
+    }
+}
+
 // The verdict on a text, its stretches, and its reports in buffers that fit, are one byte short, and longer: how many differ.
-fn text_differs(q: &mut Random, text: &[u8]) -> u32 {
+fn text_differs(q: &mut Random, text: &[u8], joins: &mut Joins) -> u32 {
+    let run = read(text).ok();
+    joins.count(text, run.as_ref());
     let used = report(text, usize::MAX).map_or(0, |lines| lines.len());
     let more = used + 1 + q.below(40) as usize;
-    let mut differ = !same_text(text) as u32 + !same_stretches(q, text) as u32;
+    let mut differ = !same_text(text) as u32 + !same_stretches(q, text, run.as_ref()) as u32;
     for bytes in [used, used - 1, more] {
         differ += !same_report(q, text, bytes) as u32;
     }
@@ -1093,7 +1159,6 @@ fn commanding(r: &mut Random, list: &List, command: u8) -> Option<(usize, usize)
 // little for its D line too, and how often that was 14.
 #[derive(Default, Debug)]
 struct CommandLines {
-    texts: u32,
     refused: [u32; 5],
     records: u32,
     no_space: u32,
@@ -1101,10 +1166,16 @@ struct CommandLines {
 
 impl CommandLines {
     // A list under settings that are taken, in these ways: how many differ.
-    fn differ(&mut self, r: &mut Random, s: &[u32; SETTINGS], list: &List) -> u32 {
+    fn differ(
+        &mut self,
+        r: &mut Random,
+        s: &[u32; SETTINGS],
+        list: &List,
+        joins: &mut Joins,
+    ) -> u32 {
         let train = r.below(4) as usize;
-        self.number_differs(r, s, list, train)
-            + self.number_differs(r, s, list, 4)
+        self.number_differs(r, s, list, train, joins)
+            + self.number_differs(r, s, list, 4, joins)
             + self.no_space_differs(r, s, list)
     }
 
@@ -1115,6 +1186,7 @@ impl CommandLines {
         s: &[u32; SETTINGS],
         list: &List,
         sort: usize,
+        joins: &mut Joins,
     ) -> u32 {
         let command = if sort < 4 { b'D' } else { b'U' };
         let Some((step, before)) = commanding(r, list, command) else {
@@ -1136,9 +1208,8 @@ impl CommandLines {
             record_of(s, &list.accepted, LONGEST_TEXT).expect("settings that are taken");
         let columns = LINE_BYTES * before + 10..LINE_BYTES * before + 14;
         text[columns].copy_from_slice(format!("{number:>4}").as_bytes());
-        self.texts += 1;
         self.refused[sort] += (read(&text).err() == Some((16, before + 1))) as u32;
-        text_differs(r, &text)
+        text_differs(r, &text, joins)
     }
 
     // The list recorded with too little space for a D line: how many differ.
@@ -1316,12 +1387,26 @@ impl Walk<'_> {
         self.b.trains[n as usize - 1]
     }
 
-    // The train comes due and goes inside.
-    fn go_inside(&mut self, n: u32) {
+    // Clock steps until the train is due.
+    fn come_due(&mut self, n: u32) {
         if let Standing::Coming(k, a) = self.standing(n) {
             self.tick_until(a + k.earliest(&self.b.settings));
         }
+    }
+
+    // The train comes due and goes inside.
+    fn go_inside(&mut self, n: u32) {
+        self.come_due(n);
         self.step('O', n);
+    }
+
+    // Those of the trains that are inside leave.
+    fn leave(&mut self, trains: &[u32]) {
+        for n in in_some_order(self.r, trains) {
+            if let Standing::Inside(..) = self.standing(n) {
+                self.step('L', n);
+            }
+        }
     }
 
     // Now and then a step that is refused, with 5 to 9.
@@ -1536,9 +1621,66 @@ fn meet(w: &mut Walk, trains: &[u32]) {
     }
 }
 
-// Settings that are taken; a longer stay for a full yard. E is just above D, or about as far as the look goes under the command
-// down: then the next train decides whether a leave raises the arm.
-fn close_settings(r: &mut Random, full: bool) -> [u32; SETTINGS] {
+// Some trains hand the crossing over to others: these go inside at the instant at which the last of those leaves. So many times of
+// eight it is otherwise: they are inside before, or go inside a tick or two later.
+fn hand_over(w: &mut Walk, from: &[u32], to: &[u32], otherwise: u64) {
+    let to = in_some_order(w.r, to);
+    let other = w.r.below(8) < otherwise;
+    let later = w.r.one_of(&[0, 0, 1, 2]) * other as u32;
+    if other && later == 0 {
+        to.iter().for_each(|n| w.step('O', *n));
+        w.ticks(3);
+        w.leave(from);
+    } else {
+        w.leave(from);
+        w.tick_until(w.b.now + later);
+        w.refused(from);
+        to.iter().for_each(|n| w.step('O', *n));
+    }
+}
+
+// Trains one by one, or two or three together, hand the crossing over from the first ones to the last, now and then once more. Some
+// are inside for no tick. At the end the last ones leave, or stay inside.
+fn convoy(w: &mut Walk, trains: &[u32]) {
+    w.leave(trains);
+    let order = in_some_order(w.r, trains);
+    let groups: Vec<&[u32]> = order.chunks(w.r.one_of(&[1, 1, 1, 2, 3])).collect();
+    let many = groups.len() * w.r.one_of(&[1, 1, 2]);
+    let turns: Vec<&[u32]> = groups.iter().copied().cycle().take(many).collect();
+    let (gap, stay) = (w.r.one_of(&[1, 2, 4]), w.r.one_of(&[1, 2, 4]));
+    let otherwise = w.r.one_of(&[0, 1, 4]);
+    for n in &order {
+        w.approach(*n);
+        w.ticks(gap);
+    }
+    turns[0].iter().for_each(|n| w.go_inside(*n));
+    for (i, two) in turns.windows(2).enumerate() {
+        w.ticks(stay);
+        w.refused(trains);
+        two[1].iter().for_each(|n| w.come_due(*n));
+        hand_over(w, two[0], two[1], otherwise);
+        if i + groups.len() < many {
+            two[0].iter().for_each(|n| w.approach(*n));
+        }
+    }
+    if w.r.below(2) == 0 {
+        w.ticks(3);
+    }
+    if w.r.below(2) == 0 {
+        w.leave(trains);
+        w.ticks(9);
+    }
+}
+
+// Settings that are taken; a longer stay for a full yard and for a convoy. E is just above D, or about as far as the look goes
+// under the command down: then the next train decides whether a leave raises the arm.
+fn close_settings(r: &mut Random, yard: Yard) -> [u32; SETTINGS] {
+    let full = yard == Yard::Full;
+    let longer = match yard {
+        Yard::Full => 500,
+        Yard::Convoy => r.one_of(&[5, 60, 60]),
+        Yard::Few | Yard::Meeting => 0,
+    };
     let p = r.one_of(&[5760, 2880, 1921]);
     let q = r.one_of(&[5760, 2880, 1440]);
     let (d, u) = (ticks_for(p), ticks_for(q));
@@ -1546,7 +1688,7 @@ fn close_settings(r: &mut Random, full: bool) -> [u32; SETTINGS] {
     let least = d + 1 + r.below(4) as u32 + r.one_of(&[0, u + w.min(20), 300 * full as u32]);
     let mut times = times(r, least, 4);
     for t in &mut times {
-        t.1 += 500 * full as u32;
+        t.1 += longer;
     }
     in_order(times, [p, q, w, d + widest(times), u])
 }
@@ -1556,13 +1698,18 @@ enum Yard {
     Few,
     Full,
     Meeting,
+    Convoy,
 }
 
-// A list in which the kept trains change hands: a full yard, or few trains in three of the ways above, or only such that meet.
+// A list in which the kept trains change hands: a full yard, or few trains in three of the ways above, or only such that meet, or
+// three convoys.
 fn handed_over(r: &mut Random, hands: &mut Hands, yard: Yard) -> ([u32; SETTINGS], List) {
-    let full = yard == Yard::Full;
-    let s = close_settings(r, full);
-    let many = if full { 96 } else { 2 + r.below(4) as usize };
+    let s = close_settings(r, yard);
+    let many = match yard {
+        Yard::Full => 96,
+        Yard::Convoy => 4 + r.below(5) as usize,
+        Yard::Few | Yard::Meeting => 2 + r.below(4) as usize,
+    };
     let trains = some_trains(r, many);
     let mut w = Walk {
         r,
@@ -1573,6 +1720,7 @@ fn handed_over(r: &mut Random, hands: &mut Hands, yard: Yard) -> ([u32; SETTINGS
     match yard {
         Yard::Full => full_yard(&mut w, &trains),
         Yard::Meeting => (0..3).for_each(|_| meet(&mut w, &trains)),
+        Yard::Convoy => (0..3).for_each(|_| convoy(&mut w, &trains)),
         Yard::Few => {
             for _ in 0..3 {
                 let way: fn(&mut Walk, &[u32]) =
@@ -1607,14 +1755,33 @@ fn up_to_refused(r: &mut Random, s: &[u32; SETTINGS], list: &List) -> Vec<u8> {
 }
 
 // A list run and recorded, its record and one with a refused step read and reported: how many differ.
-fn list_differs(r: &mut Random, s: &[u32; SETTINGS], list: &List) -> u32 {
+fn list_differs(r: &mut Random, s: &[u32; SETTINGS], list: &List, joins: &mut Joins) -> u32 {
     let (whole, _) = record_of(s, &list.accepted, LONGEST_TEXT).expect("settings that are taken");
     let mut differ = !same_run(r, s, list) as u32;
     differ += !same_state(r, s, list, WHOLE, STATE) as u32;
     differ += !same_record(r, s, list, whole.len()) as u32;
-    differ += text_differs(r, &whole);
+    differ += text_differs(r, &whole, joins);
     let refused = up_to_refused(r, s, list);
-    differ + text_differs(r, &refused)
+    differ + text_differs(r, &refused, joins)
+}
+
+// The record of a list up to any of its steps, up to one with which a train goes inside, and damaged: how many differ.
+fn cut_differs(r: &mut Random, s: &[u32; SETTINGS], list: &List, joins: &mut Joins) -> u32 {
+    let whole = list.accepted.len();
+    let any = 1 + r.below(whole as u64) as usize;
+    let mut inside: Vec<usize> = (1..=whole).collect();
+    inside.retain(|steps| list.accepted[steps - 1].0 == 'O');
+    let inside = r.one_of(&inside);
+    let mut differ = 0;
+    for (steps, damaged) in [(any, false), (inside, false), (inside, true), (whole, true)] {
+        let steps = &list.accepted[..steps];
+        let (mut text, _) = record_of(s, steps, LONGEST_TEXT).expect("settings that are taken");
+        if damaged {
+            damage(r, &mut text);
+        }
+        differ += text_differs(r, &text, joins);
+    }
+    differ
 }
 
 // The sorts of neighbours that are swapped: their letters in the order of the alphabet, A for an approach of any kind.
@@ -1753,8 +1920,8 @@ fn main() {
     let mut c = Random(0x510e_527f_ade6_82d1);
     let mut d = Random(0x9b05_688c_2b3e_6c1f);
     let (mut looks, mut swaps) = (0, Swaps::default());
-    let mut lines = CommandLines::default();
-    let (mut tried, mut states, mut records, mut texts, mut differ) = (0, 0, 0, 0, 0);
+    let (mut lines, mut joins) = (CommandLines::default(), Joins::default());
+    let (mut tried, mut states, mut records, mut differ) = (0, 0, 0, 0);
     while tried < STEPS {
         let s = settings(&mut r);
         let list = steps(&mut r, &s, 1);
@@ -1806,34 +1973,35 @@ fn main() {
                     damage(&mut r, &mut text);
                 }
             }
-            texts += 1;
-            differ += text_differs(&mut p, &text);
+            differ += text_differs(&mut p, &text, &mut joins);
         }
-        differ += lines.differ(&mut d, &s, &list);
+        differ += lines.differ(&mut d, &s, &list, &mut joins);
     }
     for _ in 0..LONG_TEXTS {
         let text = long_text(&mut p);
-        texts += 1;
-        differ += text_differs(&mut p, &text);
+        differ += text_differs(&mut p, &text, &mut joins);
     }
     let mut longest = 0;
     for _ in 0..LONGER_TEXTS {
         let text = longer_text(&mut p);
-        texts += 1;
         longest = longest.max(text.len());
-        differ += text_differs(&mut p, &text);
+        differ += text_differs(&mut p, &text, &mut joins);
     }
     let mut hands = Hands::default();
     let few = vec![Yard::Few; HAND_LISTS as usize];
     let full = vec![Yard::Full; FULL_YARDS as usize];
     let meeting = vec![Yard::Meeting; MEETINGS as usize];
-    for yard in [few, full, meeting].concat() {
+    let convoys = vec![Yard::Convoy; CONVOYS as usize];
+    for yard in [few, full, meeting, convoys].concat() {
         let (s, list) = handed_over(&mut h, &mut hands, yard);
-        differ += list_differs(&mut h, &s, &list);
+        differ += list_differs(&mut h, &s, &list, &mut joins);
+        if yard == Yard::Convoy {
+            differ += cut_differs(&mut h, &s, &list, &mut joins);
+        }
         looks += 1;
         differ += !same_look(&mut l, &s, &list, WHOLE, [2, 2]) as u32;
         differ += swapped_differ(&mut v, &s, &list, &mut swaps);
-        differ += lines.differ(&mut d, &s, &list);
+        differ += lines.differ(&mut d, &s, &list, &mut joins);
     }
     let (mut heard, mut given) = (0, Given::default());
     for _ in 0..HEARD_LISTS {
@@ -1848,19 +2016,20 @@ fn main() {
         swaps.check_enough();
         given.check_enough();
         lines.check_enough();
+        joins.check_enough();
     }
-    let lists = HAND_LISTS + FULL_YARDS + MEETINGS;
-    texts += lines.texts;
+    let lists = HAND_LISTS + FULL_YARDS + MEETINGS + CONVOYS;
     records += lines.records;
     tried += 2 * (LAST_INSTANT as u64 + 1);
     differ += !clock.join().expect("the clock's comparison") as u32;
-    let reports = 3 * texts;
+    let (texts, reports) = (joins.texts, 3 * joins.texts);
+    let (joining, wholes, apart) = (joins.joining, joins.wholes, joins.apart);
     let (swapped, sorts) = (swaps.all(), swaps.tried);
     let (other_train, other_place) = (swaps.other_train, swaps.other_place);
     let (no_space, refused) = (lines.no_space, lines.refused);
     let (lowers, named, alone) = (hands.lowers.all, hands.lowers.named, given.lowers.all);
     println!(
-        "{tried} steps, {states} final states, {looks} looks, {swapped} swapped neighbours (AA, AO, OO, LO, LL: {sorts:?}; the raise {other_train} times with the other train's leave, {other_place} times at the other place), {HEARD_LISTS} lists of {heard} steps that a cabinet alone hears, with {alone} lowers, {records} recordings ({no_space} without space for a D line), {texts} texts (the longest has {longest} bytes; another number on a command line, 16 there: on D another present train's, 0, a neighbour, out of range, on U: {refused:?}) with their stretches and {reports} reports, {lists} lists in which the kept trains change hands, with {lowers} lowers (the named train due in one tick with another, with two or more, with one that approached at another instant; not the lowest number, not the last to approach, neither, not the first, not the first at its latest: {named:?}), {differ} differ"
+        "{tried} steps, {states} final states, {looks} looks, {swapped} swapped neighbours (AA, AO, OO, LO, LL: {sorts:?}; the raise {other_train} times with the other train's leave, {other_place} times at the other place), {HEARD_LISTS} lists of {heard} steps that a cabinet alone hears, with {alone} lowers, {records} recordings ({no_space} without space for a D line), {texts} texts (the longest has {longest} bytes; another number on a command line, 16 there: on D another present train's, 0, a neighbour, out of range, on U: {refused:?}) with their stretches and {reports} reports, {joining} texts with touching stretches joined (of two, of three or more, of six or more, through one instant, still running, running since the last instant: {wholes:?}; one tick apart and not joined: {apart}), {lists} lists in which the kept trains change hands, with {lowers} lowers (the named train due in one tick with another, with two or more, with one that approached at another instant; not the lowest number, not the last to approach, neither, not the first, not the first at its latest: {named:?}), {differ} differ"
     );
     std::process::exit((differ > 0) as i32);
 }
