@@ -6,15 +6,15 @@ use mathlib.Core.Path.{_≡_, refl, sym, ap, _∙_}
 use mathlib.Core.Bool.{Bool, true, false, cond, _&&_, _||_}
 use mathlib.Core.List.{List, [], _∷_, _++_}
 use lib.Dec.{leb, eqb}
-use borrow.Author.Tests.{leb-true, leb-false, le-leb, lt-leb, eqb-true, eqb-false, eq-eqb}
+use borrow.Author.Tests.{leb-true, leb-false, le-leb, lt-leb, eqb-true, eqb-false, eq-eqb, ne-eqb}
 use Rattle.lines.proofs.Tests.{both}
 use Rattle.runs.specs.declared.Step.{Step}
 use Rattle.runs.specs.declared.Step.the-variants.{Approach, Occupy, Leave, Clock}
-use Rattle.runs.specs.History.{History, instant}
+use Rattle.runs.specs.History.{History, instant, someTrain}
 use Rattle.stretches.specs.declared.Stretch.{Stretch}
-use Rattle.stretches.specs.Stretches.{ended, none, since, laterMoments, moments, stretchesFrom, someInside, occupiedStretches, Spaced}
+use Rattle.stretches.specs.Stretches.{ended, none, since, laterMoments, moments, beginsInstant, stretchesFrom, someInside, occupiedStretches, Spaced}
 use Rattle.stretches.proofs.Spaced.{occupied-spaced}
-use Rattle.report.specs.Touching.{touch, join, joinedFrom, joined, joinedStretches, liesIn, howMany, insideAt, lastRunning, lastInside, JoinedOnce}
+use Rattle.report.specs.Touching.{touch, join, joinedFrom, joined, joinedStretches, lieIn, lieInOne, howMany, insideAt, insideAfter, lastRunning, lastInside, JoinedOnce}
 
 -- ---- apart
 
@@ -37,12 +37,7 @@ joined-spaced a x (y ∷ ys) p =
     go true e q r = q
     go false e q r = (p .0, p .1, r (touch-no a x y ys p e))
 
--- ---- each instant once
-
--- it lies in one of these
-abbrev someIn : ℕ → List Stretch → Bool
-someIn n [] = false
-someIn n (x ∷ xs) = liesIn n x || someIn n xs
+-- ---- what lies in a stretch
 
 abbrev number : Bool → ℕ
 number b = cond b 1 0
@@ -51,40 +46,37 @@ or-assoc : (a b c : Bool) → ((a || b) || c) ≡ (a || (b || c))
 or-assoc true b c = refl
 or-assoc false b c = refl
 
--- an instant from a to b, as one of a stretch
-abbrev between : ℕ → ℕ → ℕ → Bool
-between n a b = leb a n && leb n b
+-- m to n, from a to b
+abbrev within : ℕ → ℕ → ℕ → ℕ → Bool
+within m n a b = leb a m && leb n b
 
-between-before : (n a b : ℕ) → n < a → between n a b ≡ false
-between-before n a b l = rw (lt-leb a n l)
+module _ (m n a b c : ℕ) (k : b ≤ c) where
+  -- two as one: an instant or a tick lies in the first or in the second
+  within-join : a ≤ b → n ≤ m + 1 → within m n a c ≡ (within m n a b || within m n b c)
+  within-join l i = go (leb a m) (leb n b) (leb n c) refl refl refl
+    where
+      go : (x y z : Bool) → leb a m ≡ x → leb n b ≡ y → leb n c ≡ z → (x && z) ≡ ((x && y) || (leb b m && z))
+      go true true true p q r = refl
+      go true true false p q r = absurd (omega (arith, leb-true n b q, leb-false n c r))
+      go true false z p q r = sym (rw (le-leb b m (omega (arith, leb-false n b q))))
+      go false y z p q r = sym (rw (lt-leb b m (omega (arith, leb-false a m p))))
 
--- two as one have the instants of both
-between-join : (n a b c : ℕ) → a ≤ b → b ≤ c → between n a c ≡ (between n a b || between n b c)
-between-join n a b c l m = go (leb a n) (leb n b) (leb n c) refl refl refl
-  where
-    go : (x y z : Bool) → leb a n ≡ x → leb n b ≡ y → leb n c ≡ z → (x && z) ≡ ((x && y) || (leb b n && z))
-    go true true true p q r = refl
-    go true true false p q r = absurd (omega (arith, leb-true n b q, leb-false n c r))
-    go true false true p q r = sym (rw (le-leb b n (omega (arith, leb-false n b q))))
-    go true false false p q r = sym (rw (le-leb b n (omega (arith, leb-false n b q))))
-    go false y z p q r = sym (rw (lt-leb b n (omega (arith, leb-false a n p))))
+  -- one that goes on to the next instant
+  within-more : c ≤ b + 1 → (c ≡ n → a ≤ m) → within m n a c ≡ (within m n a b || eqb c n)
+  within-more i o = go (leb a m) (leb n b) (leb n c) (eqb c n) refl refl refl refl
+    where
+      go : (x y z e : Bool) → leb a m ≡ x → leb n b ≡ y → leb n c ≡ z → eqb c n ≡ e → (x && z) ≡ ((x && y) || e)
+      go true true true e p q r s = refl
+      go true true false e p q r s = absurd (omega (arith, leb-true n b q, leb-false n c r))
+      go true false true true p q r s = refl
+      go true false true false p q r s = let t = eqb-false c n s in absurd (omega (arith, leb-false n b q, leb-true n c r))
+      go true false false true p q r s = absurd (omega (arith, leb-false n c r, eqb-true c n s))
+      go true false false false p q r s = refl
+      go false y z true p q r s = absurd (omega (arith, leb-false a m p, o (eqb-true c n s)))
+      go false y z false p q r s = refl
 
--- and one instant more
-between-more : (n a b c : ℕ) → a ≤ b → b ≤ c → c ≤ b + 1 → between n a c ≡ (between n a b || eqb c n)
-between-more n a b c l m k = go (leb a n) (leb n b) (leb n c) (eqb c n) refl refl refl refl
-  where
-    go : (x y z e : Bool) → leb a n ≡ x → leb n b ≡ y → leb n c ≡ z → eqb c n ≡ e → (x && z) ≡ ((x && y) || e)
-    go true true true e p q r s = refl
-    go true true false e p q r s = absurd (omega (arith, leb-true n b q, leb-false n c r))
-    go true false true true p q r s = refl
-    go true false true false p q r s = let t = eqb-false c n s in absurd (omega (arith, leb-false n b q, leb-true n c r))
-    go true false false true p q r s = absurd (omega (arith, leb-false n c r, eqb-true c n s))
-    go true false false false p q r s = refl
-    go false y z true p q r s = absurd (omega (arith, leb-false a n p, eqb-true c n s))
-    go false y z false p q r s = refl
-
-between-same : (n a : ℕ) → between n a a ≡ eqb a n
-between-same n a = go (leb a n) (leb n a) (eqb a n) refl refl refl
+within-same : (n a : ℕ) → within n n a a ≡ eqb a n
+within-same n a = go (leb a n) (leb n a) (eqb a n) refl refl refl
   where
     go : (x y e : Bool) → leb a n ≡ x → leb n a ≡ y → eqb a n ≡ e → (x && y) ≡ e
     go true true true p q r = refl
@@ -94,38 +86,51 @@ between-same n a = go (leb a n) (leb n a) (eqb a n) refl refl refl
     go false y true p q r = absurd (omega (arith, leb-false a n p, eqb-true a n r))
     go false y false p q r = refl
 
+-- an instant and its neighbour do not lie in one instant
+within-none : (n a b : ℕ) → b ≤ a → within n (n + 1) a b ≡ false
+within-none n a b l = go (leb a n) refl
+  where
+    go : (x : Bool) → leb a n ≡ x → (x && leb (n + 1) b) ≡ false
+    go true p = lt-leb (n + 1) b (omega (arith, leb-true a n p))
+    go false p = refl
+
 -- before the first there is none
-none-before : (n a : ℕ) (xs : List Stretch) → n < a → Spaced 0 a xs → someIn n xs ≡ false
-none-before n a [] l p = refl
-none-before n a (x ∷ xs) l p = rw (between-before n (x .first) (x .last) (omega (arith, p .0))) (none-before n (x .last + 0) xs (omega (arith, p .0, p .1)) (p .2))
+none-before : (n d a : ℕ) (xs : List Stretch) → n < a → Spaced d a xs → lieInOne n n xs ≡ false
+unfolding lieInOne
+none-before n d a [] l p = refl
+none-before n d a (x ∷ xs) l p = rw (lt-leb (x .first) n (omega (arith, p .0))) (none-before n d (x .last + d) xs (omega (arith, p .0, p .1)) (p .2))
 
-joined-many : (n a : ℕ) (x : Stretch) (ys : List Stretch) → Spaced 0 a (x ∷ ys) → howMany n (joinedFrom x ys) ≡ number (liesIn n x || someIn n ys)
-unfolding joinedFrom howMany
-joined-many n a x [] p = go (liesIn n x)
+-- apart, an instant lies in one of them at most
+spaced-once : (n a : ℕ) (xs : List Stretch) → Spaced 1 a xs → howMany n xs ≡ number (lieInOne n n xs)
+unfolding howMany lieInOne
+spaced-once n a [] p = refl
+spaced-once n a (x ∷ xs) p = ap (λ (k : ℕ). number (lieIn n n x) + k) (spaced-once n (x .last + 1) xs (p .2)) ∙ go (lieIn n n x) refl
   where
-    go : (b : Bool) → number b + 0 ≡ number (b || false)
-    go true = refl
-    go false = refl
-joined-many n a x (y ∷ ys) p =
-    go (touch x y) refl (joined-many n a (join x y) ys (join-spaced a x y ys p)) (joined-many n (x .last + 0) y ys (p .2))
+    go : (b : Bool) → lieIn n n x ≡ b → number b + number (lieInOne n n xs) ≡ number (b || lieInOne n n xs)
+    go true e =
+        let before = leb-true n (x .last) (both (leb (x .first) n) (leb n (x .last)) e .1) in
+        rw (none-before n 1 (x .last + 1) xs (omega arith) (p .2))
+    go false e = zero-add _
+
+-- joined, they have the same instants and ticks
+joined-same : (m n : ℕ) → n ≤ m + 1 → (a : ℕ) (x : Stretch) (ys : List Stretch) → Spaced 0 a (x ∷ ys) → lieInOne m n (joinedFrom x ys) ≡ (lieIn m n x || lieInOne m n ys)
+unfolding joinedFrom lieInOne
+joined-same m n i a x [] p = refl
+joined-same m n i a x (y ∷ ys) p =
+    go (touch x y) refl (joined-same m n i a (join x y) ys (join-spaced a x y ys p)) (joined-same m n i (x .last + 0) y ys (p .2))
   where
-    -- the two as one
-    one : touch x y ≡ true → (liesIn n (join x y) || someIn n ys) ≡ (liesIn n x || (liesIn n y || someIn n ys))
+    one : touch x y ≡ true → (lieIn m n (join x y) || lieInOne m n ys) ≡ (lieIn m n x || (lieIn m n y || lieInOne m n ys))
     one e =
-        let q = eqb-true (x .last) (y .first) e in
-        ap (λ (b : Bool). b || someIn n ys) (between-join n (x .first) (x .last) (y .last) (p .1) (omega (arith, p .2 .0, p .2 .1)) ∙ ap (λ (k : ℕ). liesIn n x || between n k (y .last)) q)
-        ∙ or-assoc (liesIn n x) (liesIn n y) (someIn n ys)
+        ap (λ (b : Bool). b || lieInOne m n ys)
+        (within-join m n (x .first) (x .last) (y .last) (omega (arith, p .2 .0, p .2 .1)) (p .1) i
+        ∙ ap (λ (k : ℕ). lieIn m n x || within m n k (y .last)) (eqb-true (x .last) (y .first) e))
+        ∙ or-assoc (lieIn m n x) (lieIn m n y) (lieInOne m n ys)
 
-    -- or the first before all the others
-    two : (b : Bool) → liesIn n x ≡ b → x .last + 1 ≤ y .first → number b + number (liesIn n y || someIn n ys) ≡ number (b || (liesIn n y || someIn n ys))
-    two true e l = rw (none-before n (y .first) (y ∷ ys) (omega (arith, leb-true n (x .last) (both (leb (x .first) n) (leb n (x .last)) e .1))) (omega arith, p .2 .1, p .2 .2))
-    two false e l = zero-add _
-
-    go : (b : Bool) → touch x y ≡ b → howMany n (joinedFrom (join x y) ys) ≡ number (liesIn n (join x y) || someIn n ys) →
-        howMany n (joinedFrom y ys) ≡ number (liesIn n y || someIn n ys) →
-        howMany n (cond b (joinedFrom (join x y) ys) (x ∷ joinedFrom y ys)) ≡ number (liesIn n x || (liesIn n y || someIn n ys))
-    go true e q r = q ∙ ap number (one e)
-    go false e q r = ap (λ (k : ℕ). number (liesIn n x) + k) r ∙ two (liesIn n x) refl (touch-no a x y ys p e)
+    go : (b : Bool) → touch x y ≡ b → lieInOne m n (joinedFrom (join x y) ys) ≡ (lieIn m n (join x y) || lieInOne m n ys) →
+        lieInOne m n (joinedFrom y ys) ≡ (lieIn m n y || lieInOne m n ys) →
+        lieInOne m n (cond b (joinedFrom (join x y) ys) (x ∷ joinedFrom y ys)) ≡ (lieIn m n x || (lieIn m n y || lieInOne m n ys))
+    go true e q r = q ∙ one e
+    go false e q r = ap (λ (b : Bool). lieIn m n x || b) r
 
 -- ---- off the moments
 
@@ -154,23 +159,80 @@ going f a hs = stretchesFrom someInside (since f a) hs
 
 -- they have the instants with a train inside, and no others
 inside-in : (n a : ℕ) (hs : List History) → Steady a hs →
-    (someIn n (outside hs) ≡ insideAt n hs)
-    × ((f : ℕ) → f ≤ a → someIn n (going f a hs) ≡ (between n f a || insideAt n hs))
-unfolding stretchesFrom insideAt
+    (lieInOne n n (outside hs) ≡ insideAt n hs)
+    × ((f : ℕ) → f ≤ a → lieInOne n n (going f a hs) ≡ (within n n f a || insideAt n hs))
+unfolding stretchesFrom insideAt lieInOne
 inside-in n a [] p = (refl, λ f l. refl)
 inside-in n a (h ∷ hs) p = go (someInside h) (inside-in n (instant h) hs (p .2))
   where
     go : (b : Bool) →
-        (someIn n (outside hs) ≡ insideAt n hs)
-        × ((f : ℕ) → f ≤ instant h → someIn n (going f (instant h) hs) ≡ (between n f (instant h) || insideAt n hs)) →
-        (someIn n (cond b (going (instant h) (instant h) hs) (outside hs)) ≡ ((b && eqb (instant h) n) || insideAt n hs))
-        × ((f : ℕ) → f ≤ a → someIn n (cond b (going f (instant h) hs) (ended f a ∷ outside hs))
-        ≡ (between n f a || ((b && eqb (instant h) n) || insideAt n hs)))
+        (lieInOne n n (outside hs) ≡ insideAt n hs)
+        × ((f : ℕ) → f ≤ instant h → lieInOne n n (going f (instant h) hs) ≡ (within n n f (instant h) || insideAt n hs)) →
+        (lieInOne n n (cond b (going (instant h) (instant h) hs) (outside hs)) ≡ ((b && eqb (instant h) n) || insideAt n hs))
+        × ((f : ℕ) → f ≤ a → lieInOne n n (cond b (going f (instant h) hs) (ended f a ∷ outside hs))
+        ≡ (within n n f a || ((b && eqb (instant h) n) || insideAt n hs)))
     go true q = (
-      q .1 (instant h) (omega arith) ∙ ap (λ (b : Bool). b || insideAt n hs) (between-same n (instant h)),
-      λ f l. q .1 f (omega (arith, p .0)) ∙ ap (λ (b : Bool). b || insideAt n hs) (between-more n f a (instant h) l (p .0) (p .1)) ∙ or-assoc (between n f a) (eqb (instant h) n) (insideAt n hs),
+      q .1 (instant h) (omega arith) ∙ ap (λ (b : Bool). b || insideAt n hs) (within-same n (instant h)),
+      λ f l. q .1 f (omega (arith, p .0)) ∙ ap (λ (b : Bool). b || insideAt n hs) (within-more n n f a (instant h) (p .0) (p .1) (λ e. omega (arith, e, p .0)))
+          ∙ or-assoc (within n n f a) (eqb (instant h) n) (insideAt n hs),
     )
-    go false q = (q .0, λ f l. ap (λ (b : Bool). between n f a || b) (q .0))
+    go false q = (q .0, λ f l. ap (λ (b : Bool). within n n f a || b) (q .0))
+
+-- and the ticks with a train inside, and no others: an event is at the instant of the moment before it
+abbrev Ticks : ℕ → History → List Step → Type 0
+Ticks n h xs =
+    (someInside h ≡ false → lieInOne n (n + 1) (outside (laterMoments h xs)) ≡ insideAfter n (h ∷ laterMoments h xs))
+    × (someInside h ≡ true → (f : ℕ) → f ≤ instant h → lieInOne n (n + 1) (going f (instant h) (laterMoments h xs)) ≡ (within n (n + 1) f (instant h) || insideAfter n (h ∷ laterMoments h xs)))
+
+module _ (n : ℕ) (h : History) (x : Step) (xs : List Step) (t : Ticks n (x ∷ h) xs) where
+  abbrev later : Bool
+  later = insideAfter n (laterMoments h (x ∷ xs))
+
+  abbrev here : Bool
+  here = beginsInstant (x ∷ h) && (someInside h && eqb (instant h) n)
+
+  event-ticks : instant (x ∷ h) ≡ instant h → beginsInstant (x ∷ h) ≡ false → Ticks n h (x ∷ xs)
+  unfolding laterMoments stretchesFrom insideAfter lieInOne
+  event-ticks p q =
+      (λ e. begin (someInside (x ∷ h)) refl ∙ sym quiet, λ e f l. go-on f l (someInside (x ∷ h)) refl ∙ ap (λ (b : Bool). within n (n + 1) f (instant h) || b) (sym quiet))
+    where
+      quiet : (here || later) ≡ later
+      quiet = rw q
+
+      begin : (b : Bool) → someInside (x ∷ h) ≡ b →
+          lieInOne n (n + 1) (cond b (going (instant (x ∷ h)) (instant (x ∷ h)) (laterMoments (x ∷ h) xs)) (outside (laterMoments (x ∷ h) xs))) ≡ later
+      begin true e = t .1 e (instant (x ∷ h)) (omega arith) ∙ rw (within-none n (instant (x ∷ h)) (instant (x ∷ h)) (omega arith))
+      begin false e = t .0 e
+
+      go-on : (f : ℕ) → f ≤ instant h → (b : Bool) → someInside (x ∷ h) ≡ b →
+          lieInOne n (n + 1) (cond b (going f (instant (x ∷ h)) (laterMoments (x ∷ h) xs)) (ended f (instant h) ∷ outside (laterMoments (x ∷ h) xs))) ≡ (within n (n + 1) f (instant h) || later)
+      go-on f l true e = t .1 e f (omega (arith, p)) ∙ ap (λ (i : ℕ). within n (n + 1) f i || later) p
+      go-on f l false e = ap (λ (b : Bool). within n (n + 1) f (instant h) || b) (t .0 e)
+
+  clock-ticks : instant (x ∷ h) ≡ instant h + 1 → beginsInstant (x ∷ h) ≡ true → someInside (x ∷ h) ≡ someInside h → Ticks n h (x ∷ xs)
+  unfolding laterMoments stretchesFrom insideAfter lieInOne
+  clock-ticks p q r = (
+    λ e. rw (r, e, q) (t .0 (r ∙ e)),
+    λ e f l. rw (r, e, q)
+        (t .1 (r ∙ e) f (omega (arith, p))
+        ∙ ap (λ (b : Bool). b || later) (within-more n (n + 1) f (instant h) (instant (x ∷ h)) (omega (arith, p)) (omega (arith, p)) (λ i. omega (arith, i, p)) ∙ ap (λ (b : Bool). within n (n + 1) f (instant h) || b) same-next)
+        ∙ or-assoc (within n (n + 1) f (instant h)) (eqb (instant h) n) later),
+  )
+    where
+      same-next : eqb (instant (x ∷ h)) (n + 1) ≡ eqb (instant h) n
+      same-next = go (eqb (instant h) n) refl
+        where
+          go : (b : Bool) → eqb (instant h) n ≡ b → eqb (instant (x ∷ h)) (n + 1) ≡ b
+          go true z = eq-eqb (instant (x ∷ h)) (n + 1) (omega (arith, p, eqb-true (instant h) n z))
+          go false z = ne-eqb (instant (x ∷ h)) (n + 1) (λ w. eqb-false (instant h) n z (omega (arith, p, w)))
+
+inside-ticks : (n : ℕ) (h : History) (xs : List Step) → Ticks n h xs
+unfolding laterMoments stretchesFrom insideAfter lieInOne someInside someTrain
+inside-ticks n h [] = (λ e. refl, λ e f l. refl)
+inside-ticks n h (Approach c k ∷ xs) = event-ticks n h (Approach c k) xs (inside-ticks n (Approach c k ∷ h) xs) refl refl
+inside-ticks n h (Occupy k ∷ xs) = event-ticks n h (Occupy k) xs (inside-ticks n (Occupy k ∷ h) xs) refl refl
+inside-ticks n h (Leave k ∷ xs) = event-ticks n h (Leave k) xs (inside-ticks n (Leave k ∷ h) xs) refl refl
+inside-ticks n h (Clock r ∷ xs) = clock-ticks n h (Clock r) xs (inside-ticks n (Clock r ∷ h) xs) (omega arith) refl refl
 
 -- the last is running where a train is inside at the last moment
 joined-last : (b : Bool) (x : Stretch) (ys : List Stretch) → lastRunning b (joinedFrom x ys) ≡ lastRunning (x .running) ys
@@ -214,24 +276,35 @@ apart-all : (xs : List Stretch) → Spaced 0 0 xs → Spaced 1 0 (joined xs)
 apart-all [] p = tt
 apart-all (x ∷ xs) p = joined-spaced 0 x xs p
 
-many-all : (n : ℕ) (xs : List Stretch) → Spaced 0 0 xs → howMany n (joined xs) ≡ number (someIn n xs)
-unfolding howMany
-many-all n [] p = refl
-many-all n (x ∷ xs) p = joined-many n 0 x xs p
+same-all : (m n : ℕ) → n ≤ m + 1 → (xs : List Stretch) → Spaced 0 0 xs → lieInOne m n (joined xs) ≡ lieInOne m n xs
+unfolding lieInOne
+same-all m n i [] p = refl
+same-all m n i (x ∷ xs) p = joined-same m n i 0 x xs p
 
 last-all : (xs : List Stretch) → lastRunning false (joined xs) ≡ lastRunning false xs
 last-all [] = refl
 last-all (x ∷ xs) = joined-last false x xs
 
 module _ (xs : List Step) where
+  run-apart : Spaced 1 0 (joinedStretches xs)
+  run-apart = apart-all (occupiedStretches xs) (occupied-spaced xs)
+
+  run-same : (m n : ℕ) → n ≤ m + 1 → lieInOne m n (joinedStretches xs) ≡ lieInOne m n (occupiedStretches xs)
+  run-same m n i = same-all m n i (occupiedStretches xs) (occupied-spaced xs)
+
   run-instants : (n : ℕ) → howMany n (joinedStretches xs) ≡ number (insideAt n (moments xs))
-  run-instants n = many-all n (occupiedStretches xs) (occupied-spaced xs) ∙ ap number (inside-in n 0 (moments xs) (moments-steady xs) .0)
+  run-instants n = spaced-once n 0 (joinedStretches xs) run-apart ∙ ap number (run-same n n (omega arith) ∙ inside-in n 0 (moments xs) (moments-steady xs) .0)
+
+  run-ticks : (n : ℕ) → lieInOne n (n + 1) (joinedStretches xs) ≡ insideAfter n (moments xs)
+  unfolding stretchesFrom someInside someTrain
+  run-ticks n = run-same n (n + 1) (omega arith) ∙ inside-ticks n [] xs .0 refl
 
 pub joined-once : JoinedOnce
 joined-once =
     record {
-      apart = λ xs. apart-all (occupiedStretches xs) (occupied-spaced xs);
+      apart = run-apart;
       instants = run-instants;
       inside = λ xs before h after p e. run-instants xs (instant h) ∙ ap number (ap (insideAt (instant h)) p ∙ inside-there h before after e);
+      ticks = run-ticks;
       running = λ xs. last-all (occupiedStretches xs) ∙ inside-last (moments xs) .0;
     }

@@ -8,7 +8,7 @@ use lib.Dec.{leb, eqb}
 use Rattle.runs.specs.declared.Step.{Step}
 use Rattle.runs.specs.History.{History, instant}
 use Rattle.stretches.specs.declared.Stretch.{Stretch}
-use Rattle.stretches.specs.Stretches.{moments, someInside, occupiedStretches, Spaced}
+use Rattle.stretches.specs.Stretches.{moments, beginsInstant, someInside, occupiedStretches, Spaced}
 
 -- ---- joining
 
@@ -35,19 +35,30 @@ joinedStretches xs = joined (occupiedStretches xs)
 
 -- ---- what joining gives
 
--- an instant lies in a stretch: from its first to its last
-abbrev pub liesIn : ℕ → Stretch → Bool
-liesIn n x = leb (x .first) n && leb n (x .last)
+-- the instants m to n lie in a stretch
+abbrev pub lieIn : ℕ → ℕ → Stretch → Bool
+lieIn m n x = leb (x .first) m && leb n (x .last)
 
--- in how many of these
+-- they lie in one of these
+unfoldable pub lieInOne : ℕ → ℕ → List Stretch → Bool
+lieInOne m n [] = false
+lieInOne m n (x ∷ xs) = lieIn m n x || lieInOne m n xs
+
+-- in how many of these an instant lies
 unfoldable pub howMany : ℕ → List Stretch → ℕ
 howMany n [] = 0
-howMany n (x ∷ xs) = cond (liesIn n x) 1 0 + howMany n xs
+howMany n (x ∷ xs) = cond (lieIn n n x) 1 0 + howMany n xs
 
 -- at some of these moments, of this instant, a train is inside
 unfoldable pub insideAt : ℕ → List History → Bool
 insideAt n [] = false
 insideAt n (h ∷ hs) = (someInside h && eqb (instant h) n) || insideAt n hs
+
+-- a train is inside while the clock goes on from this instant, from one of these moments to the next
+unfoldable pub insideAfter : ℕ → List History → Bool
+insideAfter n [] = false
+insideAfter n (h ∷ []) = false
+insideAfter n (h ∷ k ∷ hs) = (beginsInstant k && (someInside h && eqb (instant h) n)) || insideAfter n (k ∷ hs)
 
 -- whether the last of these stretches is still running, and whether a train is inside at the last of these moments; b where there is none
 abbrev pub lastRunning : Bool → List Stretch → Bool
@@ -67,5 +78,7 @@ pub record JoinedOnce : Type 0 where
   -- so does every moment with a train inside
   pub inside : (xs : List Step) (before : List History) (h : History) (after : List History) → moments xs ≡ before ++ h ∷ after → someInside h ≡ true →
       howMany (instant h) (joinedStretches xs) ≡ 1
+  -- a tick, from an instant to the next, lies in one of them exactly if a train is inside while it passes: so nothing else is joined
+  pub ticks : (xs : List Step) (n : ℕ) → lieInOne n (n + 1) (joinedStretches xs) ≡ insideAfter n (moments xs)
   -- the last is still running exactly if a train is inside when the record ends
   pub running : (xs : List Step) → lastRunning false (joinedStretches xs) ≡ lastInside false (moments xs)
