@@ -69,12 +69,11 @@ module _ (t : List ℕ) where
   -- from the stretch x₀ on, with the answer m₀ after it: x is joined so far, with the answer m after it
   pub record Joining (x₀ : Stretch) (m₀ : Next) (x : Stretch) (m : Next) : Type 0 where
     pub rest : joinedFrom x₀ (occupiedFrom t m₀) ≡ joinedFrom x (occupiedFrom t m)
-    pub begins : x .first ≡ x₀ .first
     pub within : Within (length t) x
     pub beyond : Within (length t) (m .stretch)
 
   pub joining-start : (o : Next) → Found t o → (m : Next) → Gives Occupied t (o .cursor) m → Joining (o .stretch) m (o .stretch) m
-  joining-start o f m g = record { rest = refl; begins = refl; within = f .within; beyond = (g .ordered, g .within) }
+  joining-start o f m g = record { rest = refl; within = f .within; beyond = (g .ordered, g .within) }
 
   module _ (x₀ : Stretch) (m₀ : Next) (x : Stretch) (m : Next) (w : Joining x₀ m₀ x m) where
     -- it touches
@@ -88,7 +87,6 @@ module _ (t : List ℕ) where
           let same = both (m .found) (touch x (m .stretch)) e .1 in
           record {
             rest = w .rest ∙ ap (joinedFrom x) joined-here ∙ rw same;
-            begins = w .begins;
             within = (omega (arith, w .within .0, w .beyond .0, eqb-true (x .last) (m .stretch .first) same), w .beyond .1);
             beyond = (g .ordered, g .within);
           }
@@ -102,7 +100,6 @@ module _ (t : List ℕ) where
     joining-end e o p f g =
         record {
           stands = ap joined (after-found o (f .found) m₀ g) ∙ rw p (w .rest) ∙ go (m .found) e;
-          begins = w .begins ∙ ap (λ (y : Stretch). y .first) (sym p);
           within = w .within;
           beyond = w .beyond;
         }

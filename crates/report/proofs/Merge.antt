@@ -1,7 +1,7 @@
 -- The stretches that two cursors find, merged into a buffer line by line. Assumes nothing.
 use Prim.Native.Nat.{ℕ, suc, _+_, _*_, _≤_, _<_}
 use native.Mathlib.Omega.{arith}
-use mathlib.Core.Path.{_≡_, refl, sym, ap, _∙_}
+use mathlib.Core.Path.{_≡_, refl, sym, ap, subst, _∙_}
 use mathlib.Core.Bool.{Bool, true, false, not, cond, _&&_, _||_, true≢false}
 use mathlib.Core.List.{List, [], _∷_, _++_, append-assoc, append-nil}
 use lib.Dec.{leb}
@@ -171,7 +171,7 @@ module _ (t out₀ : List ℕ) (space : Space t out₀) where
             let a = ap length (j .stands) in
             row-more (stretchLine 79 (r .stretch)) after n (r .next) (line-long 79 (r .stretch)) (w .withinN) (j .beyond) (omega arith)
             (ap (merged (aheadN n)) (j .stands)
-            ∙ second-next n o (stretchesAhead Lowered t (n .cursor)) (r .stretch) (aheadO (r .next)) (second-found n o more e, j .begins) e) p
+            ∙ second-next n o (stretchesAhead Lowered t (n .cursor)) (r .stretch) (aheadO (r .next)) (subst (Heads o) (j .stands) (found-heads t o)) e) p
 
         pub less-o : length (aheadN n) + length (aheadO (r .next)) < length (aheadN n) + length (aheadO o)
         less-o = let a = ap length (j .stands) in omega arith

@@ -28,7 +28,7 @@ touches x o = o .found && touch x (o .stretch)
 abbrev pub Within : ℕ → Stretch → Type 0
 Within n x = (x .first ≤ x .last) × (x .last ≤ n)
 
--- a stretch is found
+-- a stretch is found, within the text
 pub record Found (t : List ℕ) (o : Next) : Type 0 where
   pub found : o .found ≡ true
   pub within : Within (length t) (o .stretch)
@@ -36,7 +36,6 @@ pub record Found (t : List ℕ) (o : Next) : Type 0 where
 -- r has the first of the joined stretches that o has, and its answer has the others
 pub record JoinsFrom (t : List ℕ) (o : Next) (r : Joined) : Type 0 where
   pub stands : joined (occupiedFrom t o) ≡ r .stretch ∷ joined (occupiedFrom t (r .next))
-  pub begins : r .stretch .first ≡ o .stretch .first
   pub within : Within (length t) (r .stretch)
   pub beyond : Within (length t) (r .next .stretch)
 
