@@ -513,26 +513,31 @@ fn show_report(
     print(lines);
 }
 
+// The arm where two trains are inside from 3 to 5: half way down at 2, down from 3 on, up again at 6.
+fn arm_of_two() -> [f32; 12] {
+    [
+        0.0,
+        0.0,
+        90.0,
+        45.0,
+        0.0,
+        0.0,
+        0.0,
+        0.0,
+        0.0,
+        0.0,
+        0.0,
+        90.0,
+    ]
+}
+
 // Train 2 goes inside at the instant where train 1 leaves; trains 2 and 3 in the same way after train 1.
 fn joined_ended() {
     print(b"touching");
     show_report(
         b"AATTTOTLOTLT",
         &[1u32, 2, 0, 0, 0, 1, 0, 1, 2, 0, 2, 0],
-        &[
-            0.0f32,
-            0.0,
-            90.0,
-            45.0,
-            0.0,
-            0.0,
-            0.0,
-            0.0,
-            0.0,
-            0.0,
-            0.0,
-            90.0,
-        ],
+        &arm_of_two(),
         &mut [0u8; 435],
         &mut [0u8; 57],
     );
@@ -569,7 +574,7 @@ fn joined_running() {
     show_report(
         b"AATTTOTLOT",
         &[1u32, 2, 0, 0, 0, 1, 0, 1, 2, 0],
-        &[0.0f32, 0.0, 90.0, 45.0, 0.0, 0.0, 0.0, 0.0, 0.0, 0.0],
+        &arm_of_two(),
         &mut [0u8; 390],
         &mut [0u8; 57],
     );
@@ -605,20 +610,7 @@ fn not_joined() {
     show_report(
         b"AATTTOTOLTLT",
         &[1u32, 2, 0, 0, 0, 1, 0, 2, 1, 0, 2, 0],
-        &[
-            0.0f32,
-            0.0,
-            90.0,
-            45.0,
-            0.0,
-            0.0,
-            0.0,
-            0.0,
-            0.0,
-            0.0,
-            0.0,
-            90.0,
-        ],
+        &arm_of_two(),
         &mut [0u8; 435],
         &mut [0u8; 57],
     );
