@@ -1908,7 +1908,7 @@ fn swapped_differ(r: &mut Random, s: &[u32; SETTINGS], list: &List, swaps: &mut 
 }
 
 fn main() {
-    // beside all else: it takes as long
+    // beside all else
     let clock = std::thread::spawn(|| same_clock(&K));
     let mut r = Random(0x2545_f491_4f6c_dd1d);
     let mut q = Random(0x9e37_79b9_7f4a_7c15);
