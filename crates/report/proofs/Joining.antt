@@ -1,5 +1,5 @@
 -- Stretches joined one by one, as the cursors find them, and counted. Assumes nothing.
-use Prim.Native.Nat.{ℕ, suc, _+_, _-_, _≤_, _<_}
+use Prim.Native.Nat.{ℕ, _+_, _-_, _≤_, _<_}
 use native.Mathlib.Nat.{zero-add}
 use native.Mathlib.Omega.{arith}
 use mathlib.Core.Path.{_≡_, refl, sym, ap, _∙_}
@@ -16,27 +16,13 @@ use Rattle.stretches.proofs.Totals.{ahead-few}
 use Rattle.report.specs.declared.Joined.{Joined}
 use Rattle.report.specs.Touching.{touch, join, joinedFrom, joined}
 use Rattle.report.specs.Rows.{occupiedFrom, touches, Within, Found, JoinsFrom, os}
+use Rattle.report.proofs.JoinedLists.{joined-few}
 
--- ---- lists of stretches joined
+-- ---- those of a text
 
--- no more than before
-joined-few : (x : Stretch) (ys : List Stretch) → length (joinedFrom x ys) ≤ suc (length ys)
-unfolding joinedFrom
-joined-few x [] = omega arith
-joined-few x (y ∷ ys) = go (touch x y) (joined-few (join x y) ys) (joined-few y ys)
-  where
-    go : (b : Bool) → length (joinedFrom (join x y) ys) ≤ suc (length ys) → length (joinedFrom y ys) ≤ suc (length ys) →
-        length (cond b (joinedFrom (join x y) ys) (x ∷ joinedFrom y ys)) ≤ suc (suc (length ys))
-    go true l m = omega arith
-    go false l m = omega arith
-
-few-joined : (xs : List Stretch) → length (joined xs) ≤ length xs
-few-joined [] = omega arith
-few-joined (x ∷ xs) = joined-few x xs
-
--- a text has no more than lines
+-- no more than lines
 pub os-few : (t : List ℕ) → length (os t) ≤ linesIn (length t - startCursor .at)
-os-few t = omega (arith, few-joined (stretchesAhead Occupied t startCursor), ahead-few Occupied t startCursor)
+os-few t = omega (arith, joined-few (stretchesAhead Occupied t startCursor), ahead-few Occupied t startCursor)
 
 -- the first of those joined begins where the first stretch begins; there is one where a stretch is found
 abbrev pub Heads : Next → List Stretch → Type 0
@@ -112,26 +98,26 @@ module _ (t : List ℕ) where
   -- ---- counted
 
   -- so many are counted, and o has the others
-  pub record Counting (o : Next) (count : ℕ) : Type 0 where
+  pub record CountingJoined (o : Next) (count : ℕ) : Type 0 where
     pub within : Within (length t) (o .stretch)
     pub all : count + length (joined (occupiedFrom t o)) ≡ length (os t)
 
-  pub counting-start : (o : Next) → Gives Occupied t startCursor o → Counting o 0
-  counting-start o g = record { within = (g .ordered, g .within); all = zero-add _ ∙ ap (λ (l : List Stretch). length (joined l)) (sym (g .stands)) }
+  pub count-start : (o : Next) → Gives Occupied t startCursor o → CountingJoined o 0
+  count-start o g = record { within = (g .ordered, g .within); all = zero-add _ ∙ ap (λ (l : List Stretch). length (joined l)) (sym (g .stands)) }
 
-  module _ (o : Next) (count : ℕ) (w : Counting o count) where
-    pub counting-found : o .found ≡ true → Found t o
-    counting-found f = record { found = f; within = w .within }
+  module _ (o : Next) (count : ℕ) (w : CountingJoined o count) where
+    pub count-found : o .found ≡ true → Found t o
+    count-found f = record { found = f; within = w .within }
 
     module _ (r : Joined) (j : JoinsFrom t o r) where
-      pub counting-next : Counting (r .next) (count + 1)
-      counting-next = let a = ap length (j .stands) in record { within = j .beyond; all = omega (arith, w .all) }
+      pub count-next : CountingJoined (r .next) (count + 1)
+      count-next = let a = ap length (j .stands) in record { within = j .beyond; all = omega (arith, w .all) }
 
-      pub counting-less : length (joined (occupiedFrom t (r .next))) < length (joined (occupiedFrom t o))
-      counting-less = let a = ap length (j .stands) in omega arith
+      pub count-less : length (joined (occupiedFrom t (r .next))) < length (joined (occupiedFrom t o))
+      count-less = let a = ap length (j .stands) in omega arith
 
-      pub counting-room : count < length t
-      counting-room = let a = ap length (j .stands) in omega (arith, w .all, os-few t)
+      pub count-room : count < length t
+      count-room = let a = ap length (j .stands) in omega (arith, w .all, os-few t)
 
-    pub counting-end : o .found ≡ false → count ≡ length (os t)
-    counting-end f = let none : length (joined (occupiedFrom t o)) ≡ 0 = rw f in omega (arith, w .all)
+    pub count-end : o .found ≡ false → count ≡ length (os t)
+    count-end f = let none : length (joined (occupiedFrom t o)) ≡ 0 = rw f in omega (arith, w .all)

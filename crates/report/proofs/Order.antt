@@ -12,7 +12,7 @@ use Rattle.stretches.proofs.Spaced.{spaced-lower, lowered-spaced}
 use Rattle.report.specs.Touching.{joinedStretches}
 use Rattle.report.specs.Report.{Row, N, O, rows, runReport}
 use Rattle.report.specs.Order.{firstOf, Before, BeforeAll, Rises, rowsN, rowsO, ReportOrder}
-use Rattle.report.proofs.Touching.{joined-once}
+use Rattle.report.proofs.Touching.{joined-always}
 
 -- ---- each row before all that follow it
 
@@ -90,7 +90,7 @@ pub report-order : ReportOrder
 unfolding runReport
 report-order =
     record {
-      rises = λ xs. rows-rise 0 0 (loweredStretches xs) (joinedStretches xs) (lowered-spaced xs) (joined-once .apart xs);
+      rises = λ xs. rows-rise 0 0 (loweredStretches xs) (joinedStretches xs) (lowered-spaced xs) (joined-always .holds xs .apart);
       happenedN = λ xs. rows-n (loweredStretches xs) (joinedStretches xs);
       happenedO = λ xs. rows-o (loweredStretches xs) (joinedStretches xs);
       numbered = λ xs. rw (rows-o (loweredStretches xs) (joinedStretches xs));

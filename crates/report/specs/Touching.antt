@@ -8,7 +8,7 @@ use lib.Dec.{leb, eqb}
 use Rattle.runs.specs.declared.Step.{Step}
 use Rattle.runs.specs.History.{History, instant}
 use Rattle.stretches.specs.declared.Stretch.{Stretch}
-use Rattle.stretches.specs.Stretches.{moments, beginsInstant, someInside, occupiedStretches, Spaced}
+use Rattle.stretches.specs.Stretches.{moments, someInside, occupiedStretches, Spaced}
 
 -- ---- joining
 
@@ -39,46 +39,51 @@ joinedStretches xs = joined (occupiedStretches xs)
 abbrev pub lieIn : ℕ → ℕ → Stretch → Bool
 lieIn m n x = leb (x .first) m && leb n (x .last)
 
--- they lie in one of these
-unfoldable pub lieInOne : ℕ → ℕ → List Stretch → Bool
-lieInOne m n [] = false
-lieInOne m n (x ∷ xs) = lieIn m n x || lieInOne m n xs
+-- in how many of these they lie
+unfoldable pub howMany : ℕ → ℕ → List Stretch → ℕ
+howMany m n [] = 0
+howMany m n (x ∷ xs) = cond (lieIn m n x) 1 0 + howMany m n xs
 
--- in how many of these an instant lies
-unfoldable pub howMany : ℕ → List Stretch → ℕ
-howMany n [] = 0
-howMany n (x ∷ xs) = cond (lieIn n n x) 1 0 + howMany n xs
+-- a train is inside at this moment, which is of instant n
+abbrev pub insideNow : ℕ → History → Bool
+insideNow n h = someInside h && eqb (instant h) n
 
--- at some of these moments, of this instant, a train is inside
+-- at some of these moments, of instant n
 unfoldable pub insideAt : ℕ → List History → Bool
 insideAt n [] = false
-insideAt n (h ∷ hs) = (someInside h && eqb (instant h) n) || insideAt n hs
+insideAt n (h ∷ hs) = insideNow n h || insideAt n hs
 
--- a train is inside while the clock goes on from this instant, from one of these moments to the next
-unfoldable pub insideAfter : ℕ → List History → Bool
-insideAfter n [] = false
-insideAfter n (h ∷ []) = false
-insideAfter n (h ∷ k ∷ hs) = (beginsInstant k && (someInside h && eqb (instant h) n)) || insideAfter n (k ∷ hs)
+-- while the clock goes on from instant n: at one of these moments, of instant n, and at the one after it, of the next instant
+unfoldable pub insideDuring : ℕ → List History → Bool
+insideDuring n [] = false
+insideDuring n (h ∷ []) = false
+insideDuring n (h ∷ k ∷ hs) = (insideNow n h && insideNow (n + 1) k) || insideDuring n (k ∷ hs)
 
--- whether the last of these stretches is still running, and whether a train is inside at the last of these moments; b where there is none
-abbrev pub lastRunning : Bool → List Stretch → Bool
-lastRunning b [] = b
-lastRunning b (x ∷ xs) = lastRunning (x .running) xs
+-- a train is inside at the last of these moments; b where there is none
+abbrev pub insideLast : Bool → List History → Bool
+insideLast b [] = b
+insideLast b (h ∷ hs) = insideLast (someInside h) hs
 
-abbrev pub lastInside : Bool → List History → Bool
-lastInside b [] = b
-lastInside b (h ∷ hs) = lastInside (someInside h) hs
+-- the last of these stretches is still running exactly if b, and all before it have ended
+abbrev pub RunOn : Bool → List Stretch → Type 0
+RunOn b [] = b ≡ false
+RunOn b (x ∷ []) = x .running ≡ b
+RunOn b (x ∷ y ∷ ys) = (x .running ≡ false) × RunOn b (y ∷ ys)
 
--- the joined stretches of every run
-pub record JoinedOnce : Type 0 where
+-- what the stretches ys say of the moments of a run xs
+pub record JoinedOnce (xs : List Step) (ys : List Stretch) : Type 0 where
   -- no two touch: each begins after the instant where the one before it ended
-  pub apart : (xs : List Step) → Spaced 1 0 (joinedStretches xs)
+  pub apart : Spaced 1 0 ys
   -- an instant with a train inside, at whichever of its moments, lies in just one of them, and any other instant in none
-  pub instants : (xs : List Step) (n : ℕ) → howMany n (joinedStretches xs) ≡ cond (insideAt n (moments xs)) 1 0
+  pub instants : (n : ℕ) → howMany n n ys ≡ cond (insideAt n (moments xs)) 1 0
   -- so does every moment with a train inside
-  pub inside : (xs : List Step) (before : List History) (h : History) (after : List History) → moments xs ≡ before ++ h ∷ after → someInside h ≡ true →
-      howMany (instant h) (joinedStretches xs) ≡ 1
-  -- a tick, from an instant to the next, lies in one of them exactly if a train is inside while it passes: so nothing else is joined
-  pub ticks : (xs : List Step) (n : ℕ) → lieInOne n (n + 1) (joinedStretches xs) ≡ insideAfter n (moments xs)
+  pub inside : (before : List History) (h : History) (after : List History) → moments xs ≡ before ++ h ∷ after → someInside h ≡ true → howMany (instant h) (instant h) ys ≡ 1
+  -- a tick, from an instant to the next, lies in just one of them if a train is inside while it passes, and otherwise in none: so nothing else is joined
+  pub ticks : (n : ℕ) → howMany n (n + 1) ys ≡ cond (insideDuring n (moments xs)) 1 0
   -- the last is still running exactly if a train is inside when the record ends
-  pub running : (xs : List Step) → lastRunning false (joinedStretches xs) ≡ lastInside false (moments xs)
+  pub running : RunOn (insideLast false (moments xs)) ys
+
+-- it holds of the joined stretches of every run, and of no other stretches
+pub record JoinedAlways : Type 0 where
+  pub holds : (xs : List Step) → JoinedOnce xs (joinedStretches xs)
+  pub only : (xs : List Step) (ys : List Stretch) → JoinedOnce xs ys → ys ≡ joinedStretches xs
