@@ -3,7 +3,7 @@
 use Prim.Native.Nat.{ℕ, _+_, _≤_}
 use native.Mathlib.Omega.{arith}
 use mathlib.Core.Path.{_≡_, refl, sym, ap, _∙_}
-use mathlib.Core.Bool.{Bool, true, false, cond, _&&_, _||_, and-false}
+use mathlib.Core.Bool.{Bool, true, false, cond, _&&_, _||_, and-false, or-assoc, or-true, or-false}
 use mathlib.Core.List.{List, [], _∷_, _++_}
 use lib.Dec.{leb, eqb}
 use borrow.Author.Tests.{leb-true, le-leb, lt-leb, eqb-true, eqb-false, eq-eqb}
@@ -15,7 +15,7 @@ use Rattle.stretches.specs.declared.Stretch.{Stretch}
 use Rattle.stretches.specs.Stretches.{ended, none, since, laterMoments, moments, stretchesFrom, someInside, occupiedStretches, Spaced}
 use Rattle.stretches.proofs.Spaced.{occupied-spaced}
 use Rattle.report.specs.Touching.{joinedStretches, howMany, insideNow, insideAt, insideDuring, insideLast, RunOn, JoinedOnce, JoinedAlways}
-use Rattle.report.proofs.JoinedLists.{number, or-assoc, between, lieInOne, joined-spaced, spaced-once, joined-same, run-more, joined-run, spaced-only}
+use Rattle.report.proofs.JoinedLists.{number, between, lieInOne, joined-spaced, spaced-once, joined-same, run-more, joined-run, spaced-only}
 
 -- ---- a stretch that goes on
 
@@ -24,13 +24,9 @@ same-test true t p q = sym (p refl)
 same-test false true p q = q refl
 same-test false false p q = refl
 
-or-true : (b : Bool) → (b || true) ≡ true
-or-true true = refl
-or-true false = refl
-
-or-false : (b : Bool) → (b || false) ≡ b
-or-false true = refl
-or-false false = refl
+-- c reaches as far as b
+reach-same : (k b c : ℕ) → b ≤ c → (k ≤ c → k ≤ b) → leb k c ≡ leb k b
+reach-same k b c q f = same-test (leb k c) (leb k b) (λ l. le-leb k b (f (leb-true k c l))) (λ l. le-leb k c (omega (arith, leb-true k b l)))
 
 module _ (n a : ℕ) where
   -- it begins
@@ -50,11 +46,7 @@ module _ (n a : ℕ) where
       where
         go : (x : Bool) → eqb c n ≡ x → between n n a c ≡ (between n n a b || x)
         go true e = let i = eqb-true c n e in rw (le-leb a n (omega arith), le-leb n c (omega arith)) (sym (or-true (leb n b)))
-        go false e =
-            let i = eqb-false c n e in
-            ap (λ (x : Bool). leb a n && x)
-            (same-test (leb n c) (leb n b) (λ l. le-leb n b (omega (arith, leb-true n c l))) (λ l. le-leb n c (omega (arith, leb-true n b l))))
-            ∙ sym (or-false (between n n a b))
+        go false e = let i = eqb-false c n e in ap (λ (x : Bool). leb a n && x) (reach-same n b c q (λ l. omega arith)) ∙ sym (or-false (between n n a b))
 
     between-tick : between n (n + 1) a c ≡ (between n (n + 1) a b || (eqb b n && eqb c (n + 1)))
     between-tick = go (eqb b n) refl
@@ -63,12 +55,11 @@ module _ (n a : ℕ) where
         go true e =
             let i = eqb-true b n e in
             rw (le-leb a n (omega arith), lt-leb (n + 1) b (omega arith))
-            (same-test (leb (n + 1) c) (eqb c (n + 1)) (λ l. eq-eqb c (n + 1) (omega (arith, leb-true (n + 1) c l))) (λ l. le-leb (n + 1) c (omega (arith, eqb-true c (n + 1) l))))
+            (same-test (leb (n + 1) c) (eqb c (n + 1)) (λ l. eq-eqb c (n + 1) (omega (arith, leb-true (n + 1) c l)))
+            (λ l. le-leb (n + 1) c (omega (arith, eqb-true c (n + 1) l))))
         go false e =
             let i = eqb-false b n e in
-            ap (λ (x : Bool). leb a n && x)
-            (same-test (leb (n + 1) c) (leb (n + 1) b) (λ l. le-leb (n + 1) b (omega (arith, leb-true (n + 1) c l))) (λ l. le-leb (n + 1) c (omega (arith, leb-true (n + 1) b l))))
-            ∙ sym (or-false (between n (n + 1) a b))
+            ap (λ (x : Bool). leb a n && x) (reach-same (n + 1) b c q (λ l. omega arith)) ∙ sym (or-false (between n (n + 1) a b))
 
 -- ---- off the moments
 
