@@ -77,10 +77,12 @@ pub record JoinedOnce (xs : List Step) (ys : List Stretch) : Type 0 where
   -- an instant with a train inside, at whichever of its moments, lies in just one of them, and any other instant in none
   pub instants : (n : ℕ) → howMany n n ys ≡ cond (insideAt n (moments xs)) 1 0
   -- so does every moment with a train inside
-  pub inside : (before : List History) (h : History) (after : List History) → moments xs ≡ before ++ h ∷ after → someInside h ≡ true → howMany (instant h) (instant h) ys ≡ 1
-  -- a tick, from an instant to the next, lies in just one of them if a train is inside while it passes, and otherwise in none: so nothing else is joined
+  pub inside : (before : List History) (h : History) (after : List History) → moments xs ≡ before ++ h ∷ after → someInside h ≡ true →
+      howMany (instant h) (instant h) ys ≡ 1
+  -- a tick, from an instant to the next, lies in just one of them if a train is inside while it passes, and otherwise in none: so nothing else is
+  -- joined
   pub ticks : (n : ℕ) → howMany n (n + 1) ys ≡ cond (insideDuring n (moments xs)) 1 0
-  -- the last is still running exactly if a train is inside when the record ends
+  -- the last is still running exactly if a train is inside when the record ends, and no other is
   pub running : RunOn (insideLast false (moments xs)) ys
 
 -- it holds of the joined stretches of every run, and of no other stretches
