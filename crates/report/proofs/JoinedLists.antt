@@ -57,8 +57,8 @@ joined-few (x ∷ xs) = from-few x xs
 
 -- ---- what lies in them
 
-abbrev pub number : Bool → ℕ
-number b = cond b 1 0
+abbrev pub oneIf : Bool → ℕ
+oneIf b = cond b 1 0
 
 -- m to n, from a to b
 abbrev pub between : ℕ → ℕ → ℕ → ℕ → Bool
@@ -77,12 +77,12 @@ none-before m n d a (x ∷ xs) l p =
     rw (lt-leb (x .first) m (omega (arith, p .0))) (none-before m n d (x .last + d) xs (omega (arith, p .0, p .1)) (p .2))
 
 -- apart: in one of them at most
-pub spaced-once : (m n : ℕ) → m ≤ n → (a : ℕ) (xs : List Stretch) → Spaced 1 a xs → howMany m n xs ≡ number (lieInOne m n xs)
+pub spaced-once : (m n : ℕ) → m ≤ n → (a : ℕ) (xs : List Stretch) → Spaced 1 a xs → howMany m n xs ≡ oneIf (lieInOne m n xs)
 unfolding howMany lieInOne
 spaced-once m n i a [] p = refl
-spaced-once m n i a (x ∷ xs) p = ap (λ (k : ℕ). number (lieIn m n x) + k) (spaced-once m n i (x .last + 1) xs (p .2)) ∙ go (lieIn m n x) refl
+spaced-once m n i a (x ∷ xs) p = ap (λ (k : ℕ). oneIf (lieIn m n x) + k) (spaced-once m n i (x .last + 1) xs (p .2)) ∙ go (lieIn m n x) refl
   where
-    go : (b : Bool) → lieIn m n x ≡ b → number b + number (lieInOne m n xs) ≡ number (b || lieInOne m n xs)
+    go : (b : Bool) → lieIn m n x ≡ b → oneIf b + oneIf (lieInOne m n xs) ≡ oneIf (b || lieInOne m n xs)
     go true e =
         let before = leb-true n (x .last) (both (leb (x .first) m) (leb n (x .last)) e .1) in
         rw (none-before m n 1 (x .last + 1) xs (omega (arith, i, before)) (p .2))
@@ -160,14 +160,14 @@ unfolding howMany
 some-in m n x xs l k = rw (le-leb (x .first) m l, le-leb n (x .last) k) (omega arith)
 
 none-in : (m n : ℕ) → m ≤ n → (a : ℕ) (xs : List Stretch) → m < a → Spaced 1 a xs → howMany m n xs ≡ 0
-none-in m n i a xs l p = spaced-once m n i a xs p ∙ ap number (none-before m n 1 a xs l p)
+none-in m n i a xs l p = spaced-once m n i a xs p ∙ ap oneIf (none-before m n 1 a xs l p)
 
-not-above : (a b : ℕ) → (b < a → 1 ≤ 0) → a ≤ b
+not-above : (a b : ℕ) → (b < a → ⊥) → a ≤ b
 not-above a b f = go (leb a b) refl
   where
     go : (x : Bool) → leb a b ≡ x → a ≤ b
     go true e = leb-true a b e
-    go false e = omega (arith, f (leb-false a b e))
+    go false e = absurd (f (leb-false a b e))
 
 module _ (x : Stretch) (xs : List Stretch) where
   -- the first does not begin before the others do: its first instant would lie in none of them
@@ -182,7 +182,7 @@ module _ (x : Stretch) (xs : List Stretch) where
   no-sooner p y ys q s =
       let here : lieIn (x .last) (x .last + 1) x ≡ false = rw (lt-leb (x .last + 1) (x .last) (omega arith)) (and-false (leb (x .first) (x .last))) in
       let later = none-in (x .last) (x .last + 1) (omega arith) (x .last + 1) xs (omega arith) p in
-      not-above (y .last) (x .last) (λ l. omega (arith, some-in (x .last) (x .last + 1) y ys q (omega (arith, l)), s .1 (x .last), ap number here, later))
+      not-above (y .last) (x .last) (λ l. omega (arith, some-in (x .last) (x .last + 1) y ys q (omega (arith, l)), s .1 (x .last), ap oneIf here, later))
 
 module _ (x y : Stretch) (f : x .first ≡ y .first) (l : x .last ≡ y .last) where
   same-stretch : x .running ≡ y .running → x ≡ y
@@ -193,7 +193,7 @@ module _ (x y : Stretch) (f : x .first ≡ y .first) (l : x .last ≡ y .last) w
   rest-many : (m n : ℕ) (xs ys : List Stretch) → howMany m n (x ∷ xs) ≡ howMany m n (y ∷ ys) → howMany m n xs ≡ howMany m n ys
   unfolding howMany
   rest-many m n xs ys e =
-      let here : number (lieIn m n x) ≡ number (lieIn m n y) = ap₂ (λ (a b : ℕ). number (between m n a b)) f l in
+      let here : oneIf (lieIn m n x) ≡ oneIf (lieIn m n y) = ap₂ (λ (a b : ℕ). oneIf (between m n a b)) f l in
       omega (arith, here, e)
 
   same-rest : (xs ys : List Stretch) → Same (x ∷ xs) (y ∷ ys) → Same xs ys

@@ -9,13 +9,12 @@ use lib.Dec.{leb, eqb}
 use borrow.Author.Tests.{leb-true, le-leb, lt-leb, eqb-true, eqb-false, eq-eqb}
 use Rattle.lines.proofs.Tests.{both, refuted}
 use Rattle.runs.specs.declared.Step.{Step}
-use Rattle.runs.specs.declared.Step.the-variants.{Approach, Occupy, Leave, Clock}
 use Rattle.runs.specs.History.{History, instant}
 use Rattle.stretches.specs.declared.Stretch.{Stretch}
-use Rattle.stretches.specs.Stretches.{ended, none, since, laterMoments, moments, stretchesFrom, someInside, occupiedStretches, Spaced}
-use Rattle.stretches.proofs.Spaced.{occupied-spaced}
+use Rattle.stretches.specs.Stretches.{ended, none, since, moments, stretchesFrom, someInside, occupiedStretches, Spaced}
+use Rattle.stretches.proofs.Spaced.{Steady, moments-steady, occupied-spaced}
 use Rattle.report.specs.Touching.{joinedStretches, howMany, insideNow, insideAt, insideDuring, insideLast, RunOn, JoinedOnce, JoinedAlways}
-use Rattle.report.proofs.JoinedLists.{number, between, lieInOne, joined-spaced, spaced-once, joined-same, run-more, joined-run, spaced-only}
+use Rattle.report.proofs.JoinedLists.{oneIf, between, lieInOne, joined-spaced, spaced-once, joined-same, run-more, joined-run, spaced-only}
 
 -- ---- a stretch that goes on
 
@@ -62,22 +61,6 @@ module _ (n a : ℕ) where
             ap (λ (x : Bool). leb a n && x) (reach-same (n + 1) b c q (λ l. omega arith)) ∙ sym (or-false (between n (n + 1) a b))
 
 -- ---- off the moments
-
--- no moment goes back, or over an instant
-abbrev Steady : ℕ → List History → Type 0
-Steady a [] = Unit {0}
-Steady a (h ∷ hs) = (a ≤ instant h) × (instant h ≤ a + 1) × Steady (instant h) hs
-
-later-steady : (h : History) (xs : List Step) → Steady (instant h) (laterMoments h xs)
-unfolding laterMoments
-later-steady h [] = tt
-later-steady h (Approach k n ∷ xs) = (omega arith, omega arith, later-steady (Approach k n ∷ h) xs)
-later-steady h (Occupy n ∷ xs) = (omega arith, omega arith, later-steady (Occupy n ∷ h) xs)
-later-steady h (Leave n ∷ xs) = (omega arith, omega arith, later-steady (Leave n ∷ h) xs)
-later-steady h (Clock r ∷ xs) = (omega arith, omega arith, later-steady (Clock r ∷ h) xs)
-
-moments-steady : (xs : List Step) → Steady 0 (moments xs)
-moments-steady xs = (omega arith, omega arith, later-steady [] xs)
 
 -- stretches with a train inside, after a moment with none, and after one of a stretch that goes on since f, at the instant a
 abbrev outside : List History → List Stretch
@@ -162,19 +145,19 @@ module _ (xs : List Step) where
   run-apart : Spaced 1 0 (joinedStretches xs)
   run-apart = joined-spaced (occupiedStretches xs) (occupied-spaced xs)
 
-  run-many : (m n : ℕ) → m ≤ n → n ≤ m + 1 → howMany m n (joinedStretches xs) ≡ number (lieInOne m n (occupiedStretches xs))
-  run-many m n i j = spaced-once m n i 0 (joinedStretches xs) run-apart ∙ ap number (joined-same m n j (occupiedStretches xs) (occupied-spaced xs))
+  run-many : (m n : ℕ) → m ≤ n → n ≤ m + 1 → howMany m n (joinedStretches xs) ≡ oneIf (lieInOne m n (occupiedStretches xs))
+  run-many m n i j = spaced-once m n i 0 (joinedStretches xs) run-apart ∙ ap oneIf (joined-same m n j (occupiedStretches xs) (occupied-spaced xs))
 
-  run-instants : (n : ℕ) → howMany n n (joinedStretches xs) ≡ number (insideAt n (moments xs))
-  run-instants n = run-many n n (omega arith) (omega arith) ∙ ap number (inside-instants n 0 (moments xs) (moments-steady xs) .0)
+  run-instants : (n : ℕ) → howMany n n (joinedStretches xs) ≡ oneIf (insideAt n (moments xs))
+  run-instants n = run-many n n (omega arith) (omega arith) ∙ ap oneIf (inside-instants n 0 (moments xs) (moments-steady xs) .0)
 
   run-joined : JoinedOnce xs (joinedStretches xs)
   run-joined =
       record {
         apart = run-apart;
         instants = run-instants;
-        inside = λ before h after p e. run-instants (instant h) ∙ ap number (ap (insideAt (instant h)) p ∙ inside-there h before after e);
-        ticks = λ n. run-many n (n + 1) (omega arith) (omega arith) ∙ ap number (inside-ticks n 0 (moments xs) (moments-steady xs) .0);
+        inside = λ before h after p e. run-instants (instant h) ∙ ap oneIf (ap (insideAt (instant h)) p ∙ inside-there h before after e);
+        ticks = λ n. run-many n (n + 1) (omega arith) (omega arith) ∙ ap oneIf (inside-ticks n 0 (moments xs) (moments-steady xs) .0);
         running = joined-run (insideLast false (moments xs)) (occupiedStretches xs) (inside-run (moments xs) .0);
       }
 
