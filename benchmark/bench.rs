@@ -9,7 +9,8 @@
 mod inplace;
 mod kept;
 
-use inplace::{Bench, FullLooks, Looks, Order, Settings, Standing, FIRST_LINE, FULL, HEAD, LAST_LINE, LINE, LONGEST, ROW};
+use inplace::{Bench, Entry, FullLooks, Looks, Order, Settings, Standing};
+use inplace::{FIRST_LINE, FULL, HEAD, LAST_LINE, LAST_TRAIN, LINE, LONGEST, ROW};
 use kept::Kept;
 use std::hint::black_box;
 use std::time::Instant;
@@ -58,6 +59,8 @@ const ROUNDS: usize = 21;
 const RECORDS_A_ROUND: usize = 20;
 const SMALL_A_ROUND: usize = 1_000;
 const DAMAGED: usize = 20_000;
+// 96 train numbers so far apart are spread over the range
+const APART: u32 = 680;
 // the letters of approaches, kinds 1 to 4
 const APPROACHES: &[u8; 4] = b"ABEF";
 // the sample record of document 01
@@ -81,6 +84,17 @@ impl Random {
         self.0 ^= self.0 >> 7;
         self.0 ^= self.0 << 17;
         self.0 % n
+    }
+}
+
+// A train's number or one beside: at an edge, small, one of those spread over the range, any, or beyond it.
+fn any_number(r: &mut Random) -> u32 {
+    match r.below(5) {
+        0 => [0, 1, 65_535, 65_536, u32::MAX][r.below(5) as usize],
+        1 => r.below(99) as u32,
+        2 => APART * (1 + r.below(96) as u32),
+        3 => r.below(LAST_TRAIN as u64 + 1) as u32,
+        _ => r.below(1 << 32) as u32,
     }
 }
 
@@ -131,17 +145,22 @@ impl Yard {
     }
 
     fn count(&self) -> usize {
-        self.bench.trains.table.iter().filter(|t| !matches!(t, Standing::Away)).count()
+        self.present_trains().count()
     }
 
-    // The next number whose train is away; with four kinds any such number, so that of equals the lowest may be the later one.
+    fn present_trains(&self) -> impl Iterator<Item = &Entry> {
+        self.bench.trains.table.iter().filter(|e| e.since().is_some())
+    }
+
+    // The next number whose train is away, of 96 spread over the range; with four kinds any such number, so that of equals the
+    // lowest may be the later one.
     fn next_away(&mut self) -> u32 {
         loop {
             self.next = match self.kinds {
-                Kinds::One => self.next % 96 + 1,
-                Kinds::Four => 1 + self.random.below(96) as u32,
+                Kinds::One => self.next % (96 * APART) + APART,
+                Kinds::Four => 1 + self.random.below(LAST_TRAIN as u64) as u32,
             };
-            if let Standing::Away = self.bench.trains.table[self.next as usize - 1] {
+            if self.present_trains().all(|e| e.number as u32 != self.next) {
                 return self.next;
             }
         }
@@ -156,18 +175,16 @@ impl Yard {
 
     // A train that now occupies (it may, and by chance or because it must) or leaves (by chance).
     fn train_moves(&mut self) -> Option<(u8, u32)> {
-        let (now, times) = (self.bench.now, self.bench.trains.times);
-        for n in 1..=96 {
-            match self.bench.trains.table[n as usize - 1] {
-                Standing::Coming(kind, a) => {
-                    let t = times[kind as usize];
-                    if now >= a + t.earliest && (now == a + t.latest || self.random.below(t.earliest as u64) == 0) {
+        let now = self.bench.now;
+        for entry in &self.bench.trains.table {
+            let (n, t) = (entry.number as u32, self.bench.trains.times[entry.kind as usize]);
+            match entry.standing {
+                Standing::Coming(a) if now >= a + t.earliest => {
+                    if now == a + t.latest || self.random.below(t.earliest as u64) == 0 {
                         return Some((b'O', n));
                     }
                 }
-                Standing::Inside(kind, _) if self.random.below(times[kind as usize].earliest as u64) == 0 => {
-                    return Some((b'L', n));
-                }
+                Standing::Inside(_) if self.random.below(t.earliest as u64) == 0 => return Some((b'L', n)),
                 _ => {}
             }
         }
@@ -192,12 +209,9 @@ impl Yard {
     // Whether a train that approached before this one is due at the same instant.
     fn later_equal(&self, n: u32) -> bool {
         let trains = &self.bench.trains;
-        let approach = |standing: &Standing| match *standing {
-            Standing::Away => None,
-            Standing::Coming(kind, a) | Standing::Inside(kind, a) => Some((a, trains.due(kind, a))),
-        };
-        let own = approach(&trains.table[n as usize - 1]);
-        let mut all = trains.table.iter().filter_map(approach);
+        let approach = |e: &Entry| (e.since(), trains.due_of(e));
+        let own = self.present_trains().find(|e| e.number as u32 == n).map(approach);
+        let mut all = self.present_trains().map(approach);
         own.is_some_and(|(a, due)| all.any(|(b, other)| b < a && other == due))
     }
 
@@ -379,9 +393,9 @@ impl List {
     fn damage(&mut self, r: &mut Random) {
         let at = r.below(self.letters.len() as u64) as usize;
         let i = r.below(13) as usize;
-        match r.below(10) {
+        match r.below(12) {
             0 | 1 => self.letters[at] = b"ABEFOLT"[r.below(7) as usize],
-            2 => self.numbers[at] = r.below(99) as u32,
+            2 => self.numbers[at] = any_number(r),
             3 => self.readings[at] = r.below(2 * FULL as u64 + 9) as f32 / 128.0,
             4 => self.settings[i] = [0, 1, FULL, FULL + 1, 60_000, 60_001][r.below(6) as usize],
             5 => self.settings[i] = (self.settings[i] + r.below(5) as u32).saturating_sub(2),
@@ -391,6 +405,15 @@ impl List {
                 _ => self.named.truncate(at),
             },
             7 if r.below(8) == 0 => self.letters[at] = b'A' + r.below(26) as u8,
+            // one more approach
+            8 | 9 => {
+                self.letters.insert(at, APPROACHES[r.below(4) as usize]);
+                self.numbers.insert(at, any_number(r));
+                self.readings.insert(at, 0.0);
+                self.answers.push(99);
+                self.orders.push(99);
+                self.named.push(99);
+            }
             _ => {
                 self.letters.remove(at);
                 self.numbers.remove(at);
@@ -414,25 +437,30 @@ impl List {
 }
 
 fn put_line(text: &mut Vec<u8>, first: u32, letter: u8, last: u32) {
-    text.extend_from_slice(format!("{first:>8} {}{last:>4}\n", letter as char).as_bytes());
+    text.extend_from_slice(format!("{first:>8} {}{last:>5}\n", letter as char).as_bytes());
 }
 
-// A record that fills what the report takes, up to a line: two trains present, with short stretches.
+// A record that fills what the report takes, as far as whole lines go: two trains present, with short stretches.
 fn record(kinds: Kinds) -> Vec<u8> {
     let mut yard = Yard::new(2, 4, 2880, kinds, 0x9e37_79b9_7f4a_7c15);
     let mut text = FIRST_LINE.to_vec();
     for (i, value) in yard.settings.iter().enumerate() {
         put_line(&mut text, *value, b'S', i as u32 + 1);
     }
-    // room for a step, its command and the last line
-    while text.len() + 3 * LINE <= LONGEST {
+    loop {
         let (letter, number, order) = yard.step();
-        put_line(&mut text, yard.bench.now, letter, number);
+        let mut lines = Vec::new();
+        put_line(&mut lines, yard.bench.now, letter, number);
         if order.letter() != 0 {
-            put_line(&mut text, yard.bench.now, order.letter(), order.train());
+            put_line(&mut lines, yard.bench.now, order.letter(), order.train());
         }
+        if text.len() + lines.len() + LINE > LONGEST {
+            break;
+        }
+        text.extend(lines);
     }
     text.extend_from_slice(LAST_LINE);
+    assert_eq!(text.len(), LONGEST / LINE * LINE, "the last step has a command without space");
     text
 }
 
@@ -484,7 +512,7 @@ fn damage(text: &mut Vec<u8>, r: &mut Random) {
         6 => {
             let mut lines = text.chunks_exact_mut(LINE).skip(line.max(HEAD) / LINE);
             if let Some(command) = lines.find(|l| matches!(l[9], b'D' | b'U')) {
-                command[10..14].copy_from_slice(format!("{:>4}", r.below(97)).as_bytes());
+                command[10..15].copy_from_slice(format!("{:>5}", any_number(r).min(99_999)).as_bytes());
             }
         }
         _ => text.push(10),
@@ -514,15 +542,16 @@ fn check_same_reports(text: &[u8]) {
 }
 
 // Lists of trains of four kinds, plain and damaged, run and recorded, and the records read, plain and damaged: how often each
-// number was answered.
-fn check_same_lists() -> [usize; 17] {
+// number was answered. In some there are as many trains as the table has entries.
+fn check_same_lists() -> [usize; 18] {
     let mut r = Random(0x0fed_cba9_8765_4321);
-    let mut met = [0; 17];
+    let mut met = [0; 18];
     let mut equals = 0;
     for _ in 0..DAMAGED {
-        let (present, earliest) = (1 + r.below(6) as u32, 6 + r.below(10) as u32);
+        let full = r.below(16) == 0;
+        let (present, earliest) = (if full { 96 } else { 1 + r.below(6) as u32 }, 6 + r.below(10) as u32);
         let yard = Yard::new(present, earliest, 1920, Kinds::Four, 1 + r.below(u64::MAX));
-        let mut list = List::first_of(yard, 20 + r.below(200) as usize);
+        let mut list = List::first_of(yard, 20 + r.below(200) as usize + full as usize * 96);
         match r.below(4) {
             0 => equals += list.equals,
             times => (0..times).for_each(|_| list.damage(&mut r)),
@@ -556,7 +585,8 @@ fn check_same_kinds() {
     check_same_reports(&record(Kinds::Four));
     let met = check_same_lists();
     // only the end of the clock is too far
-    assert!((0..17).all(|number| number == 10 || met[number] > 0), "a number is never answered: {met:?}");
+    assert!((0..18).all(|number| number == 10 || met[number] > 0), "a number is never answered: {met:?}");
+    assert!(met[17] >= 100, "too few approaches to a full table: {met:?}");
 }
 
 // A record, the place for its report, and how many times it goes through in a round.

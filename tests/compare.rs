@@ -3,13 +3,14 @@
 //   rt staticlib exports
 //   rustc -O --edition 2021 tests/compare.rs -L target/staticlib -l static=exports -o target/compare && target/compare
 //
-// Random lists of steps (refused ones among them; sensible and absurd readings, as f32 bit patterns; 1 to 96 trains; settings
-// that are refused; four kinds, alike or each with its own times) through `weqhaso_run`: every answer, every command, the train
-// that a lower names (0 beside all other steps), and the places beyond the list; also with too few settings and with values behind
-// them. The same lists through `weqhaso_state`, with enough places and too few: also the bench after the list. The same lists
-// through `weqhaso_look`, in the same way: the pose by its bits, the gate and the trains present. The same lists with two
-// neighbours swapped that are accepted, about different trains, no clock steps, and not an approach and a leave: all but the place
-// of a command between the two stays, trains of lowers too. The same lists through `weqhaso_record`, into records just long enough,
+// Random lists of steps (refused ones among them; sensible and absurd readings, as f32 bit patterns; 1 to 155 trains, their numbers
+// from the whole range, at its edges and beyond; settings that are refused; four kinds, alike or each with its own times) through
+// `weqhaso_run`: every answer, every command, the train that a lower names (0 beside all other steps), and the places beyond the
+// list; also with too few settings and with values behind them. The same lists through `weqhaso_state`, with enough places and too
+// few: also the bench after the list, its trains by number, wherever in the table they stand. The same lists through `weqhaso_look`,
+// in the same way: the pose by its bits, the gate and the trains present. The same lists with two neighbours swapped that are
+// accepted, about different trains, no clock steps, and not an approach and a leave: all but the place of a command between the two
+// and the entries of trains stays, trains of lowers too. The same lists through `weqhaso_record`, into records just long enough,
 // one byte shorter, longer, of any length, and with space for a step that lowers but not for its D line: every answer, every
 // command and its train, every byte, and how many are used. Records of the accepted steps, whole, damaged, and with another number
 // on a D or U line, through `weqhaso_read`: number and line; and through `weqhaso_report`, into buffers just long enough, one byte
@@ -28,6 +29,10 @@
 // The report joins stretches with a train inside that touch; one by one they are given as they happened. So in some of the lists
 // trains hand the crossing over, one leaving and the next going inside at one instant; their records also end at any step, or are
 // damaged. Over all texts it is counted how often the report joins stretches, and of what sorts.
+//
+// The table has 96 entries for 65,535 numbers. So in some of the lists, of a bench and of a cabinet alone, more trains come than
+// there are entries, and entries are used again and again; it is counted how often 17 was met, also in texts and without space
+// for a line. One list has every number, and one such is heard. Records in the 14 columns that lines had before are 15 at line 1.
 
 #[allow(dead_code)]
 #[path = "../second/second.rs"]
@@ -36,8 +41,8 @@ mod second;
 use second::{
     angles_of, check, joined, lowered_runs, occupied_stretches, read, record_line, record_of,
     report, report_into, ticks_for, Bench, Cabinet, Command, Gate, Kind, Recorder, Run, Standing,
-    Stretch, FIRST_STEP_LINE, FULL, K, KINDS, LAST_INSTANT, LAST_LINE, LINE_BYTES, LONGEST_TEXT,
-    SETTINGS,
+    Stretch, FIRST_LINE, FIRST_STEP_LINE, FULL, K, KINDS, LAST_INSTANT, LAST_LINE, LAST_TRAIN,
+    LINE_BYTES, LONGEST_TEXT, PLACES, SETTINGS,
 };
 
 extern "C" {
@@ -148,19 +153,26 @@ extern "C" {
 // One of the two functions that give the next stretch.
 type Next = unsafe extern "C" fn(*const u8, usize, *mut usize, usize) -> u8;
 
-const STEPS: u64 = 300_000;
+const STEPS: u64 = 340_000;
 const LONG_TEXTS: u32 = 60;
 const LONGER_TEXTS: u32 = 40;
 const HAND_LISTS: u32 = 1_500;
 const FULL_YARDS: u32 = 100;
 const MEETINGS: u32 = 300;
 const CONVOYS: u32 = 600;
+const CROWDS: u32 = 200;
 const HEARD_LISTS: u32 = 3_000;
 const WHOLE: u64 = 99;
 const UNTOUCHED: u8 = 99;
 const UNTOUCHED_TRAIN: u32 = 99_999;
 // The numbers of a bench.
-const STATE: usize = 4 + 3 * 96;
+const STATE: usize = 4 + 4 * PLACES;
+// The most that the last columns of a line hold.
+const WIDEST: u32 = 99_999;
+// Train numbers at an edge, and beyond the last.
+const EDGES: &[u32] = &[
+    0, 1, 96, 97, 255, 256, 9_999, 10_000, 65_534, 65_535, 65_536, 65_537, 99_999, 131_071,
+];
 
 // Bytes that stand for no step, and such as a cabinet does not hear.
 const NO_STEP: &[u8] = b"DUSCG abeolt\0\xff";
@@ -311,7 +323,7 @@ struct List {
     readings: Vec<f32>,
     told: Told,
     accepted: Vec<(char, u32)>,
-    state: Vec<u32>,
+    state: State,
     // the pose's two numbers by their bits
     pose: [u32; 2],
     look: [u32; 2],
@@ -350,19 +362,40 @@ impl List {
     }
 }
 
-// A train that may do the step, with some luck; else any number.
-fn train(r: &mut Random, b: &Bench, many: u64, may: impl Fn(&Standing) -> bool) -> u32 {
-    let able: Vec<u32> = (0..96)
-        .filter(|i| may(&b.trains[*i]))
-        .map(|i| i as u32 + 1)
-        .collect();
-    match r.below(20) {
-        0 => 0,
-        1 => 97,
-        2 => r.next() as u32,
-        3..=11 if !able.is_empty() => r.one_of(&able),
-        _ => 1 + r.below(many) as u32,
+// Any number: at an edge, one that agrees with a train's in its lower 16 bits, or any other.
+fn any_number(r: &mut Random, trains: &[u32]) -> u32 {
+    let higher = 65_536 * r.one_of(&[1, 2, 3, 65_535]);
+    let any = r.next() as u32;
+    match r.below(3) {
+        0 => r.one_of(EDGES),
+        1 => r.one_of(trains) + higher,
+        _ => r.one_of(&[any, any, u32::MAX]),
     }
+}
+
+// One that is able to do the step, with some luck; else any of the trains, or any number.
+fn train(r: &mut Random, trains: &[u32], able: &[u32]) -> u32 {
+    match r.below(20) {
+        0..=2 => any_number(r, trains),
+        3..=12 if !able.is_empty() => r.one_of(able),
+        _ => r.one_of(trains),
+    }
+}
+
+// Those present on the bench that stand so.
+fn standing_so(b: &Bench, so: impl Fn(&Standing) -> bool) -> Vec<u32> {
+    let present = b.table.iter().filter(|e| e.standing != Standing::Away);
+    present
+        .filter(|e| so(&e.standing))
+        .map(|e| e.train)
+        .collect()
+}
+
+// Those that are away, of four of the trains.
+fn away(r: &mut Random, trains: &[u32], is_away: impl Fn(u32) -> bool) -> Vec<u32> {
+    let mut some: Vec<u32> = (0..4).map(|_| r.one_of(trains)).collect();
+    some.retain(|n| is_away(*n));
+    some
 }
 
 // Kinds are 1 to 4.
@@ -370,18 +403,46 @@ fn number_of(kind: Kind) -> u32 {
     1 + KINDS.iter().position(|k| *k == kind).unwrap() as u32
 }
 
-// The bench by numbers: instant, angle, angle before and command, then each train's standing, the instant of its approach and its kind.
-fn state_of(b: &Bench) -> Vec<u32> {
+// A bench by numbers: instant, angle, angle before and command; then the present trains by rising number, wherever in the table
+// they stand: number, kind, 1 coming or 2 inside, and the instant of the approach.
+#[derive(Clone, Default, Debug, PartialEq)]
+struct State {
+    head: [u32; 4],
+    trains: Vec<[u32; 4]>,
+}
+
+fn state_of(b: &Bench) -> State {
     let before = b.angle as i32 - b.change;
-    let mut state = vec![b.now, b.angle, before as u32, !b.cabinet.up as u32];
-    for train in &b.trains {
-        state.extend(match train {
-            Standing::Away => [0, 0, 0],
-            Standing::Coming(k, a) => [1, *a, number_of(*k)],
-            Standing::Inside(k, a) => [2, *a, number_of(*k)],
-        });
+    let present = b.present().into_iter();
+    State {
+        head: [b.now, b.angle, before as u32, !b.cabinet.up as u32],
+        trains: present
+            .map(|(n, kind, inside, a)| [n, number_of(kind), 1 + inside as u32, a])
+            .collect(),
     }
-    state
+}
+
+// The state in the library's numbers, where an entry that no train has is four zeros and no number stands twice.
+fn state_in(numbers: &[u32]) -> Option<State> {
+    let entries = numbers[4..STATE].chunks_exact(4);
+    let mut trains: Vec<[u32; 4]> = entries.map(|e| [e[0], e[1], e[2], e[3]]).collect();
+    trains.retain(|e| *e != [0; 4]);
+    trains.sort();
+    let twice = trains.windows(2).any(|two| two[0][0] == two[1][0]);
+    let no_train = trains.iter().any(|e| e[0] == 0);
+    let head = [numbers[0], numbers[1], numbers[2], numbers[3]];
+    (!twice && !no_train).then_some(State { head, trains })
+}
+
+// Different trains for a list, and how many of them approach at first: in one of so many lists about as many as the table has entries.
+fn yard(r: &mut Random, one_of: u64) -> (Vec<u32>, usize) {
+    if r.below(one_of) == 0 {
+        let many = PLACES + r.below(60) as usize;
+        (some_trains(r, many), many.min(94 + r.below(6) as usize))
+    } else {
+        let many = r.one_of(&[1, 2, 3, 8, 96, 140]);
+        (some_trains(r, many), 0)
+    }
 }
 
 fn steps(r: &mut Random, s: &[u32; SETTINGS], least: u64) -> List {
@@ -390,43 +451,46 @@ fn steps(r: &mut Random, s: &[u32; SETTINGS], least: u64) -> List {
         list.add('A', 1, 0.0, 1, Ok(Command::Nothing));
         return list;
     };
-    let many = r.one_of(&[1, 2, 3, 8, 96]);
+    let (trains, at_first) = yard(r, 16);
+    for n in &trains[..at_first] {
+        let kind = r.one_of(&KINDS);
+        list.add(kind.letter(), *n, 0.0, *n, b.approach(kind, *n));
+    }
     for _ in 0..least + r.below(120) {
-        let now = b.now;
-        let noise = f32::from_bits(r.next() as u32);
-        match r.below(10) {
-            0 | 1 => {
-                let n = train(r, &b, many, |t| matches!(t, Standing::Away));
-                let n = if n > 96 || r.below(4) == 0 {
-                    n
-                } else {
-                    1 + (n.max(1) - 1) % many as u32
-                };
-                let kind = r.one_of(&KINDS);
-                list.add(kind.letter(), n, noise, n, b.approach(kind, n));
-            }
-            2 | 3 => {
-                let n = train(
-                    r,
-                    &b,
-                    many,
-                    |t| matches!(t, Standing::Coming(k, a) if a + k.earliest(s) <= now),
-                );
-                list.add('O', n, noise, n, b.occupy(n));
-            }
-            4 => {
-                let n = train(r, &b, many, |t| matches!(t, Standing::Inside(..)));
-                list.add('L', n, noise, n, b.leave(n));
-            }
-            _ => {
-                let f = reading(r, &b);
-                let answer = b.clock(f);
-                list.add('T', r.next() as u32, f, b.angle, answer);
-            }
-        }
+        by_letter(r, s, &mut b, &mut list, &trains);
     }
     list.end(&b);
     list
+}
+
+// A step of a list by chance.
+fn by_letter(r: &mut Random, s: &[u32; SETTINGS], b: &mut Bench, list: &mut List, trains: &[u32]) {
+    let now = b.now;
+    let noise = f32::from_bits(r.next() as u32);
+    match r.below(10) {
+        0 | 1 => {
+            let able = away(r, trains, |n| b.standing(n) == Standing::Away);
+            let n = train(r, trains, &able);
+            let kind = r.one_of(&KINDS);
+            list.add(kind.letter(), n, noise, n, b.approach(kind, n));
+        }
+        2 | 3 => {
+            let due =
+                |t: &Standing| matches!(t, Standing::Coming(k, a) if a + k.earliest(s) <= now);
+            let n = train(r, trains, &standing_so(b, due));
+            list.add('O', n, noise, n, b.occupy(n));
+        }
+        4 => {
+            let inside = standing_so(b, |t| matches!(t, Standing::Inside(..)));
+            let n = train(r, trains, &inside);
+            list.add('L', n, noise, n, b.leave(n));
+        }
+        _ => {
+            let f = reading(r, b);
+            let answer = b.clock(f);
+            list.add('T', r.next() as u32, f, b.angle, answer);
+        }
+    }
 }
 
 // The library's run of a list.
@@ -606,33 +670,48 @@ fn hearing(r: &mut Random, s: &[u32; SETTINGS]) -> List {
         list.add('T', 0, 0.0, 0, Ok(Command::Nothing));
         return list;
     };
-    let many = r.one_of(&[1, 2, 3, 8, 96]);
-    let quiet = r.one_of(&[3, 6, 12]);
+    let (trains, at_first) = yard(r, 8);
+    let quiet = r.one_of(&[1, 3, 6, 12]);
+    for n in &trains[..at_first] {
+        let kind = r.one_of(&KINDS);
+        list.add(kind.letter(), *n, 0.0, *n, c.approach(kind, *n));
+    }
     for _ in 0..1 + r.below(150) {
-        let letter = r.one_of(&['A', 'A', 'L', 'T', 'T', 'T', 'T', 'T']);
-        let stands = |n: u32| c.present[n as usize - 1].is_some() == (letter == 'L');
-        let able: Vec<u32> = (1..=96).filter(|n| stands(*n)).collect();
-        let n = match r.below(20) {
-            0 => 0,
-            1 => 97,
-            2 => r.next() as u32,
-            3..=13 if !able.is_empty() => able[r.below(able.len().min(many) as u64) as usize],
-            _ => 1 + r.below(many as u64) as u32,
-        };
-        match letter {
-            'A' => {
-                let kind = r.one_of(&KINDS);
-                list.add(kind.letter(), n, 0.0, n, c.approach(kind, n));
-            }
-            'L' => list.add('L', n, 0.0, n, c.leave(n)),
-            _ => {
-                for _ in 0..1 + r.below(quiet) {
-                    list.add('T', r.next() as u32, 0.0, 0, c.clock());
-                }
-            }
+        heard_by_chance(r, &mut c, &mut list, &trains, quiet);
+    }
+    // who is present?
+    if at_first > 0 {
+        for n in mixed(r, &trains) {
+            list.add('L', n, 0.0, n, c.leave(n));
         }
     }
     list
+}
+
+// A step that a cabinet alone hears, or fewer clock steps than this.
+fn heard_by_chance(r: &mut Random, c: &mut Cabinet, list: &mut List, trains: &[u32], quiet: u64) {
+    let letters: &[char] = match c.trains_present() {
+        90.. => &['A', 'A', 'A', 'L', 'T'],
+        _ => &['A', 'A', 'L', 'T', 'T', 'T', 'T', 'T'],
+    };
+    match r.one_of(letters) {
+        'A' => {
+            let able = away(r, trains, |n| c.train(n).is_none());
+            let n = train(r, trains, &able);
+            let kind = r.one_of(&KINDS);
+            list.add(kind.letter(), n, 0.0, n, c.approach(kind, n));
+        }
+        'L' => {
+            let present: Vec<u32> = c.present().iter().map(|t| t.0).collect();
+            let n = train(r, trains, &present);
+            list.add('L', n, 0.0, n, c.leave(n));
+        }
+        _ => {
+            for _ in 0..1 + r.below(quiet) {
+                list.add('T', r.next() as u32, 0.0, 0, c.clock());
+            }
+        }
+    }
 }
 
 // The library's cabinet alone, taken through a list.
@@ -695,6 +774,8 @@ fn present_after(s: &[u32; SETTINGS], list: &List, step: usize) -> Vec<Present> 
 #[derive(Default, Debug)]
 struct Lowers {
     all: u32,
+    // by a number of five digits
+    five: u32,
     named: [u32; 8],
 }
 
@@ -724,6 +805,7 @@ impl Lowers {
             first_latest != Some((own.latest, named)),
         ];
         self.all += 1;
+        self.five += (named >= 10_000) as u32;
         for (n, is) in self.named.iter_mut().zip(is) {
             *n += is as u32;
         }
@@ -732,15 +814,16 @@ impl Lowers {
     fn check_enough(&self, least: [u32; 8]) {
         let enough = self.named.iter().zip(least).all(|(n, least)| *n >= least);
         assert!(enough, "{self:?}, at least {least:?}");
+        assert!(self.five >= 1_000, "{self:?}");
     }
 }
 
-// How often the cabinet alone lowered, and whom for, raised, and refused with 5, 6 and 9.
+// How often the cabinet alone lowered, and whom for, raised, and refused with 5, 6, 9 and 17.
 #[derive(Default, Debug)]
 struct Given {
     lowers: Lowers,
     raises: u32,
-    refused: [u32; 3],
+    refused: [u32; 4],
 }
 
 impl Given {
@@ -748,7 +831,7 @@ impl Given {
         let many = |bytes: &[u8], b: u8| bytes.iter().filter(|x| **x == b).count() as u32;
         self.lowers.count(s, list);
         self.raises += many(&list.told.orders, b'U');
-        for (i, k) in [5, 6, 9].into_iter().enumerate() {
+        for (i, k) in [5, 6, 9, 17].into_iter().enumerate() {
             self.refused[i] += many(&list.told.answers, k);
         }
     }
@@ -779,15 +862,15 @@ fn same_state(
 ) -> bool {
     let mut lent = Lent::new(r, s, list, NO_STEP, spoiled, places >= STATE);
     let mut state: Vec<u32> = (0..places).map(|_| r.next() as u32).collect();
-    let mut want_state = state.clone();
-    if lent.want == 0 {
-        want_state[..STATE].copy_from_slice(&list.state);
-    }
+    let left = state.clone();
     let got = lent.run_to_state(s, &mut state);
-    let same = state == want_state;
+    let same = match lent.want {
+        0 => state_in(&state).as_ref() == Some(&list.state) && state[STATE..] == left[STATE..],
+        _ => state == left,
+    };
     if !same {
         println!("settings {s:?}, spoiled {spoiled}, {places} places\n{list:?}");
-        println!("{want_state:?} wanted\n{state:?} got");
+        println!("{left:?} before\n{state:?} got");
     }
     lent.same(s, list, got) && same
 }
@@ -946,31 +1029,64 @@ fn same_record(r: &mut Random, s: &[u32; SETTINGS], list: &List, bytes: usize) -
 
 // A line's first byte, where the text has a line.
 fn line_at(r: &mut Random, text: &[u8]) -> usize {
-    15 * r.below((text.len() as u64 / 15).max(1)) as usize
+    LINE_BYTES * r.below((text.len() / LINE_BYTES).max(1) as u64) as usize
 }
 
-// Bytes changed, lines dropped, doubled or cut, something appended, a number off by one.
+// What stands in the last columns of a line: a number of any width, or not as a number stands there.
+fn last_columns(r: &mut Random) -> String {
+    let most = r.one_of(&[9, 96, 9_999, WIDEST]) as u64;
+    let n = match r.below(2) {
+        0 => r.one_of(EDGES).min(WIDEST),
+        _ => r.below(most + 1) as u32,
+    };
+    match r.below(8) {
+        0 => format!("{n:05}"),
+        1 => format!("{n:<5}"),
+        2 => format!("{:>4} ", n % 10_000),
+        3 => format!("{:>5}", format!("0{}", n % 10_000)),
+        _ => format!("{n:>5}"),
+    }
+}
+
+// Bytes changed, lines dropped, doubled or cut, something appended, a number off by one, other last columns, a line one column
+// narrower, as before the fifteenth, or wider.
 fn damage(r: &mut Random, text: &mut Vec<u8>) {
     let i = line_at(r, text);
     let byte = r.below(text.len() as u64) as usize;
-    match r.below(8) {
+    match r.below(11) {
+        8 => drop(text.splice(i + 10..i + 15, last_columns(r).into_bytes())),
+        9 => {
+            text.remove(i + 10);
+        }
+        10 => text.insert(i + r.below(LINE_BYTES as u64) as usize, b' '),
         0 => text[byte] = r.next() as u8,
         1 => text[byte] = r.one_of(b"0123456789 ABEFCOLTDUS"),
-        2 => drop(text.drain(i..i + 15)),
+        2 => drop(text.drain(i..i + LINE_BYTES)),
         3 => {
-            let line = text[i..i + 15].to_vec();
+            let line = text[i..i + LINE_BYTES].to_vec();
             text.splice(i..i, line);
         }
         4 => text.truncate(byte),
         5 => text.push(r.next() as u8),
         k => {
-            let column = if k == 6 { 7 } else { 13 };
+            let column = if k == 6 { 7 } else { 14 };
             let digit = text[i + column];
             if digit.is_ascii_digit() {
                 text[i + column] = if digit == b'9' { b'8' } else { digit + 1 };
             }
         }
     }
+}
+
+// The text with 14 columns a line, as it was before five-digit numbers; of these the last four digits.
+fn narrowed(text: &[u8]) -> Vec<u8> {
+    let lines = text.chunks(LINE_BYTES).enumerate();
+    let narrow = lines.flat_map(|(i, line)| {
+        let fixed = i == 0 || line.starts_with(b"  END");
+        let column = if fixed { 0 } else { 10 };
+        [&line[..column], &line[column + 1..]].concat()
+    });
+    narrow.collect()
 }
 
 fn same_text(text: &[u8]) -> bool {
@@ -1014,7 +1130,7 @@ fn walked(r: &mut Random, text: &[u8], next: Next) -> Option<Vec<Stretch>> {
         || unsafe { next(text.as_ptr(), text.len(), places.as_mut_ptr(), 6) } != 14
         || places[..6] != few
         || unsafe { weqhaso_start(places.as_mut_ptr(), places.len()) } != 0
-        || places[..7] != [210, 0, 0, 0, 0, 0, 0]
+        || places[..7] != [LINE_BYTES * (FIRST_STEP_LINE - 1), 0, 0, 0, 0, 0, 0]
     {
         return None;
     }
@@ -1069,23 +1185,26 @@ fn same_stretches(r: &mut Random, text: &[u8], run: Option<&Run>) -> bool {
     same
 }
 
-// All texts that are compared; accepted ones whose report joins stretches; the wholes: of two, of three or more, of six or more,
+// All texts that are compared; those refused with 17; accepted ones whose report joins stretches; the wholes: of two, of three or more, of six or more,
 // with one of a single instant between the first and the last, still running, and running with the last begun at the record's last
 // instant; neighbours that are one tick apart and stay two.
 #[derive(Default, Debug)]
 struct Joins {
     texts: u32,
+    full: u32,
     joining: u32,
     wholes: [u32; 6],
     apart: u32,
 }
 
 impl Joins {
-    // A text, and its run if it is accepted. Stretches of a text that is too long are not reported.
-    fn count(&mut self, text: &[u8], run: Option<&Run>) {
+    // A text, and what the second program reads. Stretches of a text that is too long are not reported.
+    fn count(&mut self, text: &[u8], run: &Result<Run, (u8, usize)>) {
         self.texts += 1;
-        if let Some(run) = run.filter(|_| text.len() <= LONGEST_TEXT) {
-            self.count_stretches(&occupied_stretches(run));
+        match run {
+            Ok(run) if text.len() <= LONGEST_TEXT => self.count_stretches(&occupied_stretches(run)),
+            Err((17, _)) => self.full += 1,
+            _ => {}
         }
     }
 
@@ -1124,16 +1243,17 @@ impl Joins {
         let enough = self.wholes.iter().zip(least).all(|(n, least)| *n >= least);
         assert!(enough, "{self:?}, at least {least:?}");
         assert!(self.joining >= 2_300 && self.apart >= 3_100, "{self:?}");
+        assert!(self.full >= 200, "{self:?}");
     }
 }
 
 // The verdict on a text, its stretches, and its reports in buffers that fit, are one byte short, and longer: how many differ.
 fn text_differs(q: &mut Random, text: &[u8], joins: &mut Joins) -> u32 {
-    let run = read(text).ok();
-    joins.count(text, run.as_ref());
+    let run = read(text);
+    joins.count(text, &run);
     let used = report(text, usize::MAX).map_or(0, |lines| lines.len());
     let more = used + 1 + q.below(40) as usize;
-    let mut differ = !same_text(text) as u32 + !same_stretches(q, text, run.as_ref()) as u32;
+    let mut differ = !same_text(text) as u32 + !same_stretches(q, text, run.as_ref().ok()) as u32;
     for bytes in [used, used - 1, more] {
         differ += !same_report(q, text, bytes) as u32;
     }
@@ -1149,9 +1269,108 @@ fn commanding(r: &mut Random, list: &List, command: u8) -> Option<(usize, usize)
         return None;
     }
     let step = r.one_of(&steps);
+    Some((step, lines_with(told, step)))
+}
+
+// How many lines the record has with this step's, where it is accepted, and without its command's.
+fn lines_with(told: &Told, step: usize) -> usize {
     let taken = told.answers[..=step].iter().filter(|a| **a == 0).count();
     let commands = told.orders[..step].iter().filter(|o| **o != 0).count();
-    Some((step, FIRST_STEP_LINE - 1 + taken + commands))
+    FIRST_STEP_LINE - 1 + taken + commands
+}
+
+// Lists in which an approach was refused with 17, and those steps; lists in which 96 trains were present, and approaches after which
+// they were so again; steps refused with 17, and not with 14, in a record without space for another line.
+#[derive(Default, Debug)]
+struct Crowded {
+    lists: u32,
+    refused: u32,
+    full: u32,
+    again: u32,
+    no_space: u32,
+}
+
+impl Crowded {
+    fn count(&mut self, list: &List) {
+        let told = &list.told;
+        let refused = told.answers.iter().filter(|a| **a == 17).count() as u32;
+        let (mut present, mut times) = (0, 0);
+        for i in (0..list.letters.len()).filter(|i| told.answers[*i] == 0) {
+            let letter = list.letters[i] as char;
+            present += is_approach(letter) as usize;
+            present -= (letter == 'L') as usize;
+            times += (is_approach(letter) && present == PLACES) as u32;
+        }
+        self.lists += (refused > 0) as u32;
+        self.refused += refused;
+        self.full += (times > 0) as u32;
+        self.again += times.saturating_sub(1);
+    }
+
+    // The list recorded with no space left at a step that is refused with 17: how many differ.
+    fn record_differs(&mut self, r: &mut Random, s: &[u32; SETTINGS], list: &List) -> u32 {
+        let refused = |i: &usize| list.told.answers[*i] == 17;
+        let steps: Vec<usize> = (0..list.letters.len()).filter(refused).collect();
+        if steps.is_empty() {
+            return 0;
+        }
+        let step = r.one_of(&steps);
+        let lines = lines_with(&list.told, step) + 1;
+        let bytes = LINE_BYTES * lines + r.below(LINE_BYTES as u64) as usize;
+        let whole = recorded(s, list, &mut vec![0; bytes]);
+        self.no_space += whole.is_ok_and(|(told, _)| told.answers[step] == 17) as u32;
+        !same_record(r, s, list, bytes) as u32
+    }
+
+    fn says(&self) -> String {
+        let (lists, refused, full, again) = (self.lists, self.refused, self.full, self.again);
+        format!("{lists} lists that met 17, {refused} steps refused with 17, {full} lists with a full table, full again {again} times")
+    }
+
+    fn check_enough(&self, least: [u32; 5]) {
+        let counts = [
+            self.lists,
+            self.refused,
+            self.full,
+            self.again,
+            self.no_space,
+        ];
+        let enough = counts.iter().zip(least).all(|(n, least)| *n >= least);
+        assert!(enough, "{self:?}, at least {least:?}");
+    }
+}
+
+// Every train number once, and some beyond: 96 at a time approach, one too many is refused, the arm goes down, and all go inside and
+// leave. The cabinet alone hears all but the occupies.
+fn every_number(r: &mut Random) -> (List, List) {
+    let numbers = mixed(r, &(0..=LAST_TRAIN + 100).collect::<Vec<u32>>());
+    let (mut letters, mut named) = (Vec::new(), Vec::new());
+    let mut all = |letter: u8, trains: &[u32]| {
+        letters.extend(trains.iter().map(|_| letter));
+        named.extend_from_slice(trains);
+    };
+    for (i, trains) in numbers.chunks(PLACES).enumerate() {
+        all(b"ABEF"[i % 4], trains);
+        all(b'A', &numbers[..1]);
+        all(b'T', &[FULL, FULL / 2, 0]);
+        for letter in [b'O', b'L'] {
+            all(letter, trains);
+            all(letter, &numbers[..1]);
+        }
+        all(b'T', &[FULL]);
+    }
+    let degrees = |n: &u32| (*n).min(FULL) as f32 / 64.0;
+    let readings: Vec<f32> = named.iter().map(degrees).collect();
+    let list = answered(&K, &letters, &named, &readings);
+    let gone = list.accepted.iter().filter(|step| step.0 == 'L').count();
+    assert!(gone >= LAST_TRAIN as usize, "{gone} trains have left");
+    let mut c = Cabinet::new(&K).expect("settings that are taken");
+    let mut heard = List::default();
+    for (letter, n) in letters.iter().zip(named).filter(|(l, _)| **l != b'O') {
+        let letter = *letter as char;
+        heard.add(letter, n, 0.0, n, c.step(letter, n));
+    }
+    (list, heard)
 }
 
 // Records with another number on a command line, and how often that was 16 at this line: on a D line another present train's, 0, a
@@ -1195,19 +1414,27 @@ impl CommandLines {
         let own = list.told.named[step];
         let present = present_after(s, list, step).into_iter().map(|t| t.train);
         let others: Vec<u32> = present.filter(|n| *n != own).collect();
-        let most = r.one_of(&[1, 96, 9_999]);
+        let most = r.one_of(&[1, 96, 9_999, WIDEST as u64]);
+        let out_of_range = LAST_TRAIN + 1 + r.below((WIDEST - LAST_TRAIN) as u64) as u32;
         let number = match sort {
             0 if others.is_empty() => return 0,
             0 => r.one_of(&others),
             1 => 0,
-            2 => r.one_of(&[own.saturating_sub(1), own + 1]),
-            3 => 97 + r.below(9_903) as u32,
+            // the next ones, or its other four digits after another first one
+            2 => r.one_of(&[
+                own.saturating_sub(1),
+                own + 1,
+                (own + 10_000) % (WIDEST + 1),
+            ]),
+            // or its lower 16 bits
+            3 if own + 65_536 <= WIDEST => r.one_of(&[own + 65_536, out_of_range]),
+            3 => out_of_range,
             _ => 1 + r.below(most) as u32,
         };
         let (mut text, _) =
             record_of(s, &list.accepted, LONGEST_TEXT).expect("settings that are taken");
-        let columns = LINE_BYTES * before + 10..LINE_BYTES * before + 14;
-        text[columns].copy_from_slice(format!("{number:>4}").as_bytes());
+        let columns = LINE_BYTES * before + 10..LINE_BYTES * before + 15;
+        text[columns].copy_from_slice(format!("{number:>5}").as_bytes());
         self.refused[sort] += (read(&text).err() == Some((16, before + 1))) as u32;
         text_differs(r, &text, joins)
     }
@@ -1250,15 +1477,34 @@ fn long_text(r: &mut Random) -> Vec<u8> {
     }
 }
 
+// The record of a list by what stands beside its steps: the second program's recorder writes all of its lines anew at each step.
+fn text_of(s: &[u32; SETTINGS], list: &List) -> Vec<u8> {
+    let mut lines = vec![FIRST_LINE.to_string()];
+    lines.extend((1..).zip(s).map(|(i, value)| record_line(*value, 'S', i)));
+    let taken = (0..list.letters.len()).filter(|i| list.told.answers[*i] == 0);
+    let mut now = 0;
+    for (i, (letter, held)) in taken.zip(&list.accepted) {
+        now += (*letter == 'T') as u32;
+        lines.push(record_line(now, *letter, *held));
+        let (order, train) = (list.told.orders[i], list.told.named[i]);
+        if order != 0 {
+            lines.push(record_line(now, order as char, train));
+        }
+    }
+    lines.push(format!("{LAST_LINE}\n"));
+    lines.join("\n").into_bytes()
+}
+
 // A record longer than any that is reported.
 fn longer_text(r: &mut Random) -> Vec<u8> {
     loop {
         let s = settings(r);
         let least = 20_000 + r.below(20_000);
         let list = steps(r, &s, least);
-        match record_of(&s, &list.accepted, 2_000_000) {
-            Ok((text, _)) if text.len() > LONGEST_TEXT => return text,
-            _ => continue,
+        let text = text_of(&s, &list);
+        if check(&s) == 0 && text.len() > LONGEST_TEXT {
+            assert!(read(&text).is_ok(), "a record that is accepted");
+            return text;
         }
     }
 }
@@ -1314,8 +1560,10 @@ impl Hands {
 
 // The first to reach its own instant, of equals the lowest number, by a look through the whole table.
 fn first(b: &Bench, own: impl Fn(&Standing) -> Option<u32>) -> First {
-    let trains = (1..).zip(&b.trains);
-    trains.filter_map(|(n, t)| Some((own(t)?, n))).min()
+    let trains = b.table.iter();
+    trains
+        .filter_map(|e| Some((own(&e.standing)?, e.train)))
+        .min()
 }
 
 fn soonest(b: &Bench) -> First {
@@ -1384,7 +1632,7 @@ impl Walk<'_> {
     }
 
     fn standing(&self, n: u32) -> Standing {
-        self.b.trains[n as usize - 1]
+        self.b.standing(n)
     }
 
     // Clock steps until the train is due.
@@ -1413,7 +1661,8 @@ impl Walk<'_> {
     fn refused(&mut self, trains: &[u32]) {
         let n = self.r.one_of(trains);
         let any = self.r.one_of(&['A', 'B', 'E', 'F', 'O', 'L']);
-        let beyond = 97 + self.r.below(9_000) as u32;
+        let lower = if n + 65_536 <= WIDEST { n } else { 0 };
+        let beyond = self.r.one_of(&[65_536, lower + 65_536, WIDEST, u32::MAX]);
         match (self.r.below(8), self.standing(n)) {
             (0, _) => self.step(any, 0),
             (1, _) => self.step(any, beyond),
@@ -1424,6 +1673,14 @@ impl Walk<'_> {
                 self.step('O', n)
             }
             _ => {}
+        }
+    }
+
+    // Approaches, mostly of trains that are away: as many as there are entries, and some that are refused.
+    fn one_more(&mut self, trains: &[u32]) {
+        for _ in 0..self.r.one_of(&[1, 1, 2, 3]) {
+            let n = self.one_that(trains, |t| t == Standing::Away);
+            self.approach(n);
         }
     }
 
@@ -1438,14 +1695,26 @@ impl Walk<'_> {
     }
 }
 
-// Different trains: the first ones, the last ones, or any.
+// Different trains: the first ones, the last ones, those about a number, some at the edges and others, or any.
 fn some_trains(r: &mut Random, many: usize) -> Vec<u32> {
-    let all: Vec<u32> = (1..=96).collect();
-    match r.below(3) {
-        0 => all[..many].to_vec(),
-        1 => all[96 - many..].to_vec(),
-        _ => mixed(r, &all)[..many].to_vec(),
+    let span = many as u32;
+    let about = r.one_of(&[255, 256, 9_999, 32_767]) - r.below(many as u64) as u32;
+    let mut trains: Vec<u32> = match r.below(6) {
+        0 => (1..=span).collect(),
+        1 => (LAST_TRAIN - span + 1..=LAST_TRAIN).collect(),
+        2 => (about..about + span).collect(),
+        3 => mixed(r, EDGES),
+        _ => Vec::new(),
+    };
+    trains.retain(|n| (1..=LAST_TRAIN).contains(n));
+    trains.truncate(many);
+    while trains.len() < many {
+        let n = 1 + r.below(LAST_TRAIN as u64) as u32;
+        if !trains.contains(&n) {
+            trains.push(n);
+        }
     }
+    trains
 }
 
 fn mixed(r: &mut Random, trains: &[u32]) -> Vec<u32> {
@@ -1591,6 +1860,37 @@ fn full_yard(w: &mut Walk, trains: &[u32]) {
     }
 }
 
+// More trains than entries: 96 come, and then again and again one goes inside, one leaves, and another one gets its entry. Before
+// and after it others approach, refused with 17, and such as are present, refused with 6.
+fn crowd(w: &mut Walk, trains: &[u32]) {
+    let gap = w.r.one_of(&[1, 1, 2]);
+    for n in in_some_order(w.r, trains) {
+        w.approach(n);
+        w.refused(trains);
+        w.ticks(gap);
+    }
+    assert_eq!(w.b.trains_present(), PLACES);
+    for _ in 0..120 {
+        w.one_more(trains);
+        let Some((_, first)) = first_latest(&w.b) else {
+            break;
+        };
+        w.go_inside(first);
+        w.one_more(trains);
+        for _ in 0..w.r.one_of(&[0, 1, 1, 1, 3]) {
+            let n = w.one_that(trains, |t| matches!(t, Standing::Inside(..)));
+            w.step('L', n);
+        }
+        w.one_more(trains);
+        w.refused(trains);
+    }
+    w.leave(trains);
+    w.ticks(9);
+    if w.r.below(2) == 0 {
+        mixed(w.r, trains).iter().for_each(|n| w.approach(*n));
+    }
+}
+
 // Trains of any kinds that come due in one tick, or some in the next: the slower ones approach first. They go inside and leave, each
 // time in another order.
 fn meet(w: &mut Walk, trains: &[u32]) {
@@ -1675,9 +1975,9 @@ fn convoy(w: &mut Walk, trains: &[u32]) {
 // Settings that are taken; a longer stay for a full yard and for a convoy. E is just above D, or about as far as the look goes
 // under the command down: then the next train decides whether a leave raises the arm.
 fn close_settings(r: &mut Random, yard: Yard) -> [u32; SETTINGS] {
-    let full = yard == Yard::Full;
+    let full = matches!(yard, Yard::Full | Yard::Crowd);
     let longer = match yard {
-        Yard::Full => 500,
+        Yard::Full | Yard::Crowd => 500,
         Yard::Convoy => r.one_of(&[5, 60, 60]),
         Yard::Few | Yard::Meeting => 0,
     };
@@ -1699,14 +1999,16 @@ enum Yard {
     Full,
     Meeting,
     Convoy,
+    Crowd,
 }
 
 // A list in which the kept trains change hands: a full yard, or few trains in three of the ways above, or only such that meet, or
-// three convoys.
+// three convoys, or more trains than entries.
 fn handed_over(r: &mut Random, hands: &mut Hands, yard: Yard) -> ([u32; SETTINGS], List) {
     let s = close_settings(r, yard);
     let many = match yard {
-        Yard::Full => 96,
+        Yard::Full => PLACES,
+        Yard::Crowd => PLACES + 1 + r.below(60) as usize,
         Yard::Convoy => 4 + r.below(5) as usize,
         Yard::Few | Yard::Meeting => 2 + r.below(4) as usize,
     };
@@ -1721,6 +2023,7 @@ fn handed_over(r: &mut Random, hands: &mut Hands, yard: Yard) -> ([u32; SETTINGS
         Yard::Full => full_yard(&mut w, &trains),
         Yard::Meeting => (0..3).for_each(|_| meet(&mut w, &trains)),
         Yard::Convoy => (0..3).for_each(|_| convoy(&mut w, &trains)),
+        Yard::Crowd => crowd(&mut w, &trains),
         Yard::Few => {
             for _ in 0..3 {
                 let way: fn(&mut Walk, &[u32]) =
@@ -1736,9 +2039,9 @@ fn handed_over(r: &mut Random, hands: &mut Hands, yard: Yard) -> ([u32; SETTINGS
     (s, w.list)
 }
 
-// The record of the steps before one that is refused for its train or because the clock is held, and that step's line after it.
-fn up_to_refused(r: &mut Random, s: &[u32; SETTINGS], list: &List) -> Vec<u8> {
-    let refused = |i: &usize| (5..=11).contains(&list.told.answers[*i]);
+// The record of the steps before one that is refused with one of these numbers, and that step's line after it.
+fn up_to_refused(r: &mut Random, s: &[u32; SETTINGS], list: &List, by: &[u8]) -> Vec<u8> {
+    let refused = |i: &usize| by.contains(&list.told.answers[*i]);
     let steps: Vec<usize> = (0..list.letters.len()).filter(refused).collect();
     let at = r.one_of(&steps);
     let before = list.told.answers[..at].iter().filter(|a| **a == 0).count();
@@ -1761,7 +2064,8 @@ fn list_differs(r: &mut Random, s: &[u32; SETTINGS], list: &List, joins: &mut Jo
     differ += !same_state(r, s, list, WHOLE, STATE) as u32;
     differ += !same_record(r, s, list, whole.len()) as u32;
     differ += text_differs(r, &whole, joins);
-    let refused = up_to_refused(r, s, list);
+    // for its train, or because the clock is held
+    let refused = up_to_refused(r, s, list, &[5, 6, 7, 8, 9, 10, 11, 17]);
     differ + text_differs(r, &refused, joins)
 }
 
@@ -1789,18 +2093,20 @@ const PAIRS: [&[u8; 2]; 5] = [b"AA", b"AO", b"OO", b"LO", b"LL"];
 
 // How many neighbours of each sort were swapped; how often the arm rose with the later of two leaves, and then with the other
 // train's; and how often at the other of the two places. (Never: whoever goes inside or leaves is due, so as long as one of the two
-// has not left, no leave raises the arm.)
+// has not left, no leave raises the arm.) After how many swaps the library's trains had other entries.
 #[derive(Default, Debug)]
 struct Swaps {
     tried: [u32; 5],
     other_train: u32,
     other_place: u32,
+    other_entries: u32,
 }
 
 impl Swaps {
     fn check_enough(&self) {
         assert!(self.tried.iter().all(|n| *n >= 500), "{self:?}");
         assert!(self.other_train >= 500, "{self:?}");
+        assert!(self.other_entries >= 500, "{self:?}");
     }
 
     fn all(&self) -> u32 {
@@ -1843,8 +2149,8 @@ fn answered(s: &[u32; SETTINGS], letters: &[u8], numbers: &[u32], readings: &[f3
 }
 
 // Whether the list with the steps i and i + 1 swapped is answered by the library as by the second program, and as the list is:
-// the same refusal numbers and final state, the same commands with their trains before and after the two, and of the two together the
-// same in the same order.
+// the same refusal numbers, final state and trains, wherever in the table they stand, the same commands with their trains before and
+// after the two, and of the two together the same in the same order.
 fn same_swapped(
     r: &mut Random,
     s: &[u32; SETTINGS],
@@ -1865,14 +2171,15 @@ fn same_swapped(
         let mut lent = Lent::new(r, s, each, NO_STEP, WHOLE, true);
         let mut state = vec![0; STATE];
         let number = lent.run_to_state(s, &mut state);
-        if !lent.same(s, each, number) || state != each.state {
+        let trains = state_in(&state);
+        if !lent.same(s, each, number) || trains.as_ref() != Some(&each.state) {
             println!("settings {s:?}, steps {i} and the next swapped: {state:?} got\n{each:?}");
             return false;
         }
         let mut commands = lent.told.commands();
         commands.truncate(letters.len());
         lent.told.answers.truncate(letters.len());
-        got.push((lent.told.answers, commands, state));
+        got.push((lent.told.answers, commands, trains, state));
     }
     let (was, is) = (&got[0], &got[1]);
     let same = was.0 == is.0
@@ -1883,6 +2190,7 @@ fn same_swapped(
     if !same {
         println!("settings {s:?}, steps {i} and the next swapped: {was:?}, then {is:?}\n{list:?}");
     }
+    swaps.other_entries += (was.3 != is.3) as u32;
     let raised = |commands: &[(u8, u32)]| (i..i + 2).find(|j| commands[*j].0 == b'U');
     match (raised(&was.1), raised(&is.1)) {
         (Some(j), Some(k)) if j == k => swaps.other_train += 1,
@@ -1919,6 +2227,9 @@ fn main() {
     let mut v = Random(0xa54f_f53a_5f1d_36f1);
     let mut c = Random(0x510e_527f_ade6_82d1);
     let mut d = Random(0x9b05_688c_2b3e_6c1f);
+    let mut f = Random(0x1f83_d9ab_fb41_bd6b);
+    let (mut crowded, mut crowded_alone) = (Crowded::default(), Crowded::default());
+    let mut old = 0;
     let (mut looks, mut swaps) = (0, Swaps::default());
     let (mut lines, mut joins) = (CommandLines::default(), Joins::default());
     let (mut tried, mut states, mut records, mut differ) = (0, 0, 0, 0);
@@ -1954,9 +2265,12 @@ fn main() {
             differ += !same_look(&mut l, &s, &list, spoiled, places) as u32;
         }
         if check(&s) == 0 {
+            crowded.count(&list);
+            differ += crowded.record_differs(&mut f, &s, &list);
             differ += swapped_differ(&mut v, &s, &list, &mut swaps);
         }
-        let used = recorded(&s, &list, &mut vec![0; 20_000]).map_or(225, |(_, used)| used);
+        let used = recorded(&s, &list, &mut vec![0; 20_000])
+            .map_or(LINE_BYTES * FIRST_STEP_LINE, |(_, used)| used);
         let more = used + 1 + q.below(40) as usize;
         let any = q.below(used as u64 + 40) as usize;
         for bytes in [used, used - 1, more, any] {
@@ -1969,12 +2283,15 @@ fn main() {
         for damaged in 0..6 {
             let mut text = whole.clone();
             for _ in 0..damaged.min(1 + r.below(2)) {
-                if text.len() >= 15 {
+                if text.len() >= LINE_BYTES {
                     damage(&mut r, &mut text);
                 }
             }
             differ += text_differs(&mut p, &text, &mut joins);
         }
+        let narrow = narrowed(&whole);
+        old += (read(&narrow).err() == Some((15, 1))) as u32;
+        differ += text_differs(&mut p, &narrow, &mut joins);
         differ += lines.differ(&mut d, &s, &list, &mut joins);
     }
     for _ in 0..LONG_TEXTS {
@@ -1992,9 +2309,16 @@ fn main() {
     let full = vec![Yard::Full; FULL_YARDS as usize];
     let meeting = vec![Yard::Meeting; MEETINGS as usize];
     let convoys = vec![Yard::Convoy; CONVOYS as usize];
-    for yard in [few, full, meeting, convoys].concat() {
+    let crowds = vec![Yard::Crowd; CROWDS as usize];
+    for yard in [few, full, meeting, convoys, crowds].concat() {
         let (s, list) = handed_over(&mut h, &mut hands, yard);
         differ += list_differs(&mut h, &s, &list, &mut joins);
+        crowded.count(&list);
+        differ += crowded.record_differs(&mut f, &s, &list);
+        if yard == Yard::Crowd {
+            let refused = up_to_refused(&mut f, &s, &list, &[17]);
+            differ += text_differs(&mut f, &refused, &mut joins);
+        }
         if yard == Yard::Convoy {
             differ += cut_differs(&mut h, &s, &list, &mut joins);
         }
@@ -2009,27 +2333,39 @@ fn main() {
         let list = hearing(&mut c, &s);
         heard += list.letters.len();
         given.count(&s, &list);
+        crowded_alone.count(&list);
         differ += heard_differs(&mut c, &s, &list);
     }
+    let (every, every_heard) = every_number(&mut f);
+    tried += every.letters.len() as u64;
+    differ += !same_state(&mut f, &K, &every, WHOLE, STATE) as u32;
+    differ += !same_heard(&mut f, &K, &every_heard, WHOLE) as u32;
     if differ == 0 {
         hands.check_enough();
         swaps.check_enough();
         given.check_enough();
         lines.check_enough();
         joins.check_enough();
+        crowded.check_enough([300, 5_000, 300, 5_000, 200]);
+        crowded_alone.check_enough([200, 2_000, 200, 1_000, 0]);
+        assert_eq!(old, states, "texts in 14 columns that are 15 at line 1");
     }
-    let lists = HAND_LISTS + FULL_YARDS + MEETINGS + CONVOYS;
-    records += lines.records;
+    let lists = HAND_LISTS + FULL_YARDS + MEETINGS + CONVOYS + CROWDS;
+    records += lines.records + crowded.no_space;
     tried += 2 * (LAST_INSTANT as u64 + 1);
     differ += !clock.join().expect("the clock's comparison") as u32;
     let (texts, reports) = (joins.texts, 3 * joins.texts);
     let (joining, wholes, apart) = (joins.joining, joins.wholes, joins.apart);
     let (swapped, sorts) = (swaps.all(), swaps.tried);
     let (other_train, other_place) = (swaps.other_train, swaps.other_place);
+    let (other_entries, full_texts) = (swaps.other_entries, joins.full);
     let (no_space, refused) = (lines.no_space, lines.refused);
+    let no_space_17 = crowded.no_space;
+    let (crowded, crowded_alone) = (crowded.says(), crowded_alone.says());
     let (lowers, named, alone) = (hands.lowers.all, hands.lowers.named, given.lowers.all);
+    let five = hands.lowers.five;
     println!(
-        "{tried} steps, {states} final states, {looks} looks, {swapped} swapped neighbours (AA, AO, OO, LO, LL: {sorts:?}; the raise {other_train} times with the other train's leave, {other_place} times at the other place), {HEARD_LISTS} lists of {heard} steps that a cabinet alone hears, with {alone} lowers, {records} recordings ({no_space} without space for a D line), {texts} texts (the longest has {longest} bytes; another number on a command line, 16 there: on D another present train's, 0, a neighbour, out of range, on U: {refused:?}) with their stretches and {reports} reports, {joining} texts with touching stretches joined (of two, of three or more, of six or more, through one instant, still running, running since the last instant: {wholes:?}; one tick apart and not joined: {apart}), {lists} lists in which the kept trains change hands, with {lowers} lowers (the named train due in one tick with another, with two or more, with one that approached at another instant; not the lowest number, not the last to approach, neither, not the first, not the first at its latest: {named:?}), {differ} differ"
+        "{tried} steps, {states} final states, {looks} looks, {swapped} swapped neighbours (AA, AO, OO, LO, LL: {sorts:?}; the raise {other_train} times with the other train's leave, {other_place} times at the other place; the trains {other_entries} times in other entries), {HEARD_LISTS} lists of {heard} steps that a cabinet alone hears, with {alone} lowers, a full table on a bench and in a cabinet alone ({crowded}; {crowded_alone}), {records} recordings ({no_space} without space for a D line, {no_space_17} without space where 17 is met), {texts} texts (the longest has {longest} bytes; {full_texts} refused with 17; {old} in 14 columns, 15 at line 1; another number on a command line, 16 there: on D another present train's, 0, a neighbour, out of range, on U: {refused:?}) with their stretches and {reports} reports, {joining} texts with touching stretches joined (of two, of three or more, of six or more, through one instant, still running, running since the last instant: {wholes:?}; one tick apart and not joined: {apart}), {lists} lists in which the kept trains change hands, with {lowers} lowers (of {five} the train's number has five digits; the named train due in one tick with another, with two or more, with one that approached at another instant; not the lowest number, not the last to approach, neither, not the first, not the first at its latest: {named:?}), {differ} differ"
     );
     std::process::exit((differ > 0) as i32);
 }

@@ -4,6 +4,7 @@ use Prim.Native.Nat.{ℕ, zero, suc}
 use native.Mathlib.Omega.{arith}
 use mathlib.Core.Path.{_≡_, refl, sym, ap, _∙_}
 use mathlib.Core.Bool.{Bool, true, false, cond}
+use mathlib.Core.Logic.{inl, inr}
 use lib.Dec.{leb}
 use Rattle.settings.specs.declared.Kind.{Kind}
 use Rattle.settings.specs.declared.Settings.{Settings}
@@ -17,13 +18,13 @@ use Rattle.trains.specs.declared.First.the-variants.{Nobody}
 use Rattle.trains.specs.declared.Question.{Question}
 use Rattle.trains.specs.declared.Question.the-variants.{Due, Latest}
 use Rattle.trains.specs.Trains.{isComing, isInside}
-use Rattle.trains.specs.Table.{awayEntry, insideEntry, put}
+use Rattle.trains.specs.Table.{awayEntry, insideEntry, put, isFull}
 use Rattle.trains.specs.First.{hasOwn, instantOf, ownOf, earlierOf, firstIn, restOf}
-use Rattle.trains.proofs.Laws.{fresh-formed, put-formed}
-use Rattle.trains.proofs.Firsts.{own-none, own-some, away-none, own-away, first-same, first-joined, first-rest, first-gone, first-fresh, late-first}
+use Rattle.trains.proofs.Laws.{Fits, Room, coming-fits, inside-fits, present-own, fresh-formed, put-formed}
+use Rattle.trains.proofs.Firsts.{own-none, own-some, own-free, own-away, first-same, first-joined, first-rest, first-gone, first-fresh, late-first}
 use Rattle.cabinet.specs.declared.Answer.the-variants.{Refused}
 use Rattle.cabinet.specs.Cabinet.{lookedAt, later, ticked, approachRefusal}
-use Rattle.cabinet.proofs.Laws.{approach-says}
+use Rattle.cabinet.proofs.Laws.{approach-says, approach-place}
 use Rattle.cabinet.proofs.Kept.{order-full}
 use Rattle.bench.specs.declared.Event.{Event}
 use Rattle.bench.specs.declared.Event.the-variants.{Approach, Occupy, Leave}
@@ -33,7 +34,7 @@ use Rattle.bench.specs.declared.Bench.{Bench}
 use Rattle.bench.specs.declared.Moved.{Moved}
 use Rattle.bench.specs.Bench.{nowOf, entryAt, standsAt, comingNow, freshHead, freshBench, headLooked, headApproached, headOccupied, headLeft, occupyRefusal, benchLeaveRefusal, unsensed, movedBy, sensed, unticked, turned, withMotion, clockRefusal, headTicked, clockRead}
 use Rattle.bench.specs.Full.{Kept, withTable, fullLooked, fullPut, fullEntered, fullSensed, fullClockRefusal, fullClocked, refused}
-use Rattle.bench.proofs.Laws.{occupy-says, coming-present, leave-says, inside-arrived}
+use Rattle.bench.proofs.Laws.{occupy-says, coming-present, leave-says, inside-present, inside-arrived}
 
 -- at the beginning nobody is first
 pub kept-fresh : (s : Settings) → Kept (freshBench s)
@@ -43,18 +44,18 @@ kept-fresh s = record { ticks = refl; formed = fresh-formed; soonest = sym (firs
 -- ---- each event is that of the full look
 
 -- a train that goes inside keeps its due instant and has no latest one; one that leaves had none
-module _ (s : Settings) (n : ℕ) (e : Entry) where
-  inside-due : isComing (e .standing) ≡ true → ownOf s Due n (insideEntry e) ≡ ownOf s Due n e
+module _ (s : Settings) (e : Entry) where
+  inside-due : isComing (e .standing) ≡ true → ownOf s Due (insideEntry e) ≡ ownOf s Due e
   unfolding hasOwn instantOf
-  inside-due c = own-some s Due n (insideEntry e) refl ∙ sym (own-some s Due n e (coming-present (e .standing) c))
+  inside-due c = own-some s Due (insideEntry e) refl ∙ sym (own-some s Due e (coming-present (e .standing) c))
 
-  inside-latest : ownOf s Latest n (insideEntry e) ≡ Nobody
+  inside-latest : ownOf s Latest (insideEntry e) ≡ Nobody
   unfolding hasOwn
-  inside-latest = own-none s Latest n (insideEntry e) refl
+  inside-latest = own-none s Latest (insideEntry e) refl
 
-  left-latest : isInside (e .standing) ≡ true → ownOf s Latest n awayEntry ≡ ownOf s Latest n e
+  left-latest : isInside (e .standing) ≡ true → ownOf s Latest awayEntry ≡ ownOf s Latest e
   unfolding hasOwn
-  left-latest c = own-away s Latest n ∙ sym (own-none s Latest n e (inside-arrived (e .standing) c))
+  left-latest c = own-away s Latest ∙ sym (own-none s Latest e (inside-arrived (e .standing) c))
 
 -- an event refused or taken
 moved-full : (k : ℕ) (b : Bench) (n : ℕ) (entry : Entry) (gives : Sensed) (full : Moved) → (k ≡ 0 → movedBy b n gives ≡ full) →
@@ -67,7 +68,7 @@ module _ (b : Bench) (k : Kept b) (n : ℕ) where
   first q entry = firstIn (b .head .settings) q (put (b .table) n entry)
 
   abbrev own : Question → Entry → First
-  own q entry = ownOf (b .head .settings) q n entry
+  own q entry = ownOf (b .head .settings) q entry
 
   -- who is first without train n, where this one is first
   abbrev rest : Question → First → First
@@ -82,11 +83,14 @@ module _ (b : Bench) (k : Kept b) (n : ℕ) where
   approach-full : (kind : Kind) → sensed b (Approach kind) n ≡ fullSensed b (Approach kind) n
   unfolding sensed fullSensed headApproached
   approach-full kind =
-      let coming = comingNow (b .head) kind in
-      moved-full (approachRefusal n (standsAt b n)) b n (entryAt b n) _ (fullPut b n coming)
-      (λ ok. let says = approach-says n (standsAt b n) ok in
+      let coming = comingNow (b .head) kind n in
+      ap (λ (j : ℕ). movedBy b n (unless j (unsensed (b .head) (entryAt b n))
+      (headLooked (b .head) (earlierOf (own Due coming) (b .head .soonest)) (earlierOf (own Latest coming) (b .head .latest)) coming)))
+      (approach-place (b .table) n (k .formed .entries))
+      ∙ moved-full (approachRefusal n (standsAt b n) (isFull (b .table))) b n (entryAt b n) _ (fullPut b n coming)
+      (λ ok. let says = approach-says n (standsAt b n) (isFull (b .table)) ok in
       let joined : (q : Question) → first q coming ≡ earlierOf (own q coming) (firstIn (b .head .settings) q (b .table)) =
-      λ q. first-joined (b .head .settings) q (b .table) n (k .formed) (says .0) coming (own-none (b .head .settings) q n (entryAt b n) (ap (hasOwn q) (says .1) ∙ away-none q)) in
+      λ q. first-joined (b .head .settings) q (b .table) n (k .formed) (inr (says .2)) coming (own-free (b .head .settings) q (entryAt b n) (says .1)) in
       looked-full coming _ _
       (ap (earlierOf (own Due coming)) (k .soonest) ∙ sym (joined Due))
       (ap (earlierOf (own Latest coming)) (k .latest) ∙ sym (joined Latest)))
@@ -96,12 +100,13 @@ module _ (b : Bench) (k : Kept b) (n : ℕ) where
   occupy-full =
       moved-full (occupyRefusal (b .head .settings) (nowOf b) n (entryAt b n)) b n (entryAt b n) _ (fullEntered b n)
       (λ ok. let says = occupy-says (b .head .settings) (nowOf b) n (entryAt b n) ok in
+      let here : Room (b .table) n = inl (coming-present (standsAt b n) (says .1)) in
       rw (
         k .ticks,
         k .soonest,
         k .latest,
-        first-gone (b .head .settings) Latest (b .table) n (k .formed) (says .0) (insideEntry (entryAt b n)) (inside-latest (b .head .settings) n (entryAt b n)),
-        first-same (b .head .settings) Due (b .table) n (k .formed) (says .0) (insideEntry (entryAt b n)) (inside-due (b .head .settings) n (entryAt b n) (says .1)),
+        first-gone (b .head .settings) Latest (b .table) n (k .formed) here (insideEntry (entryAt b n)) (inside-latest (b .head .settings) (entryAt b n)),
+        first-same (b .head .settings) Due (b .table) n (k .formed) here (insideEntry (entryAt b n)) (inside-due (b .head .settings) (entryAt b n) (says .1)),
       ))
 
   leave-full : sensed b Leave n ≡ fullSensed b Leave n
@@ -109,9 +114,10 @@ module _ (b : Bench) (k : Kept b) (n : ℕ) where
   leave-full =
       moved-full (benchLeaveRefusal n (standsAt b n)) b n (entryAt b n) _ (fullPut b n awayEntry)
       (λ ok. let says = leave-says n (standsAt b n) ok in
+      let here : Room (b .table) n = inl (inside-present (standsAt b n) (says .1)) in
       looked-full awayEntry _ _
-      (ap (rest Due) (k .soonest) ∙ first-rest (b .head .settings) Due (b .table) n (k .formed) (says .0))
-      (k .latest ∙ sym (first-same (b .head .settings) Latest (b .table) n (k .formed) (says .0) awayEntry (left-latest (b .head .settings) n (entryAt b n) (says .1)))))
+      (ap (rest Due) (k .soonest) ∙ first-rest (b .head .settings) Due (b .table) n (k .formed) here)
+      (k .latest ∙ sym (first-same (b .head .settings) Latest (b .table) n (k .formed) here awayEntry (left-latest (b .head .settings) (entryAt b n) (says .1)))))
 
   pub sensed-full : (x : Event) → sensed b x n ≡ fullSensed b x n
   sensed-full (Approach kind) = approach-full kind
@@ -146,18 +152,25 @@ module _ (b : Bench) (k : Kept b) (r : Reading) where
 
 -- ---- and leaves a bench that keeps what its table says
 
-by-kept : (j : ℕ) (b : Bench) (m : Moved) → Kept b → Kept (m .bench) → Kept (unless j (refused b) m .bench)
-by-kept j b m k l = unless-has (λ (j : ℕ) (m : Moved). Kept (m .bench)) j (refused b) m (λ j. k) (λ z. l)
+by-kept : (j : ℕ) (b : Bench) (m : Moved) → Kept b → (j ≡ 0 → Kept (m .bench)) → Kept (unless j (refused b) m .bench)
+by-kept j b m k l = unless-has (λ (j : ℕ) (m : Moved). Kept (m .bench)) j (refused b) m (λ j. k) l
 
-table-kept : (b : Bench) → Kept b → (n : ℕ) (entry : Entry) (motion : Motion) → Kept (withTable (b .head .settings) motion (put (b .table) n entry))
-table-kept b k n entry motion = record { ticks = refl; formed = put-formed (b .table) n entry (k .formed); soonest = refl; latest = refl }
+table-kept : (b : Bench) → Kept b → (n : ℕ) (entry : Entry) (motion : Motion) → Room (b .table) n → Fits n entry → Kept (withTable (b .head .settings) motion (put (b .table) n entry))
+table-kept b k n entry motion room fits = record { ticks = refl; formed = put-formed (b .table) n entry (k .formed) room fits; soonest = refl; latest = refl }
 
 pub sensed-kept : (b : Bench) → Kept b → (n : ℕ) (x : Event) → Kept (fullSensed b x n .bench)
 unfolding fullSensed
-sensed-kept b k n (Approach kind) = by-kept (approachRefusal n (standsAt b n)) b _ k (table-kept b k n (comingNow (b .head) kind) _)
-sensed-kept b k n Occupy = by-kept (occupyRefusal (b .head .settings) (nowOf b) n (entryAt b n)) b _ k (table-kept b k n (insideEntry (entryAt b n)) _)
-sensed-kept b k n Leave = by-kept (benchLeaveRefusal n (standsAt b n)) b _ k (table-kept b k n awayEntry _)
+sensed-kept b k n (Approach kind) =
+    by-kept (approachRefusal n (standsAt b n) (isFull (b .table))) b _ k
+    (λ ok. table-kept b k n (comingNow (b .head) kind n) _ (inr (approach-says n (standsAt b n) (isFull (b .table)) ok .2)) (coming-fits n (nowOf b) kind))
+sensed-kept b k n Occupy =
+    by-kept (occupyRefusal (b .head .settings) (nowOf b) n (entryAt b n)) b _ k
+    (λ ok. let here = coming-present (standsAt b n) (occupy-says (b .head .settings) (nowOf b) n (entryAt b n) ok .1) in
+    table-kept b k n (insideEntry (entryAt b n)) _ (inl here) (inside-fits n (entryAt b n) (present-own (b .table) n here)))
+sensed-kept b k n Leave =
+    by-kept (benchLeaveRefusal n (standsAt b n)) b _ k
+    (λ ok. table-kept b k n awayEntry _ (inl (inside-present (standsAt b n) (leave-says n (standsAt b n) ok .1))) (inr refl))
 
 pub clock-kept : (b : Bench) → Kept b → (r : Reading) → Kept (fullClocked b r .bench)
 unfolding fullClocked
-clock-kept b k r = by-kept (fullClockRefusal b r) b _ k (record { ticks = refl; formed = k .formed; soonest = refl; latest = refl })
+clock-kept b k r = by-kept (fullClockRefusal b r) b _ k (λ ok. record { ticks = refl; formed = k .formed; soonest = refl; latest = refl })

@@ -13,7 +13,7 @@ use Rattle.arm.specs.Movement.{mayMove}
 use Rattle.trains.specs.declared.Entry.{Entry}
 use Rattle.trains.specs.declared.Question.the-variants.{Due, Latest}
 use Rattle.trains.specs.declared.Table.{Table}
-use Rattle.trains.specs.Table.{awayEntry, insideEntry, put, someLate, WellFormed}
+use Rattle.trains.specs.Table.{awayEntry, insideEntry, put, someLate, isFull, WellFormed}
 use Rattle.trains.specs.First.{firstIn}
 use Rattle.cabinet.specs.declared.Order.the-variants.{Nothing}
 use Rattle.cabinet.specs.declared.Answer.the-variants.{Taken, Refused}
@@ -63,7 +63,7 @@ fullEntered b n =
 
 -- a sensor's event of train n, by the refusals of the bench
 unfoldable pub fullSensed : Bench → Event → ℕ → Moved
-fullSensed b (Approach k) n = unless (approachRefusal n (standsAt b n)) (refused b) (fullPut b n (comingNow (b .head) k))
+fullSensed b (Approach k) n = unless (approachRefusal n (standsAt b n) (isFull (b .table))) (refused b) (fullPut b n (comingNow (b .head) k n))
 fullSensed b Occupy n = unless (occupyRefusal (b .head .settings) (nowOf b) n (entryAt b n)) (refused b) (fullEntered b n)
 fullSensed b Leave n = unless (benchLeaveRefusal n (standsAt b n)) (refused b) (fullPut b n awayEntry)
 

@@ -10,7 +10,7 @@ use Rattle.settings.specs.Settings.{ticksOf}
 use Rattle.trains.specs.declared.Entry.{Entry}
 use Rattle.trains.specs.declared.Question.the-variants.{Due}
 use Rattle.trains.specs.declared.Table.{Table}
-use Rattle.trains.specs.Table.{awayEntry, standingOf, put, dueBy, WellFormed}
+use Rattle.trains.specs.Table.{awayEntry, standingOf, put, dueBy, isFull, WellFormed}
 use Rattle.trains.specs.First.{trainOf, firstIn}
 use Rattle.cabinet.specs.declared.Order.{Order}
 use Rattle.cabinet.specs.declared.Answer.the-variants.{Taken}
@@ -53,7 +53,7 @@ fullPut c n entry = fullLooked (c .settings) (put (c .table) n entry) (c .contro
 
 -- approach: away becomes coming since now
 unfoldable pub fullApproached : Cabinet → Kind → ℕ → Stepped
-fullApproached c k n = unless (approachRefusal n (standingOf (c .table) n)) (refused c) (fullPut c n (comingNow c k))
+fullApproached c k n = unless (approachRefusal n (standingOf (c .table) n) (isFull (c .table))) (refused c) (fullPut c n (comingNow c k n))
 
 -- leave: a present train becomes away
 unfoldable pub fullLeft : Cabinet → ℕ → Stepped

@@ -1,5 +1,6 @@
 // The bench cases a to m of document 01 through the built functions, one line each; what the bench shows along its sample run, and a cabinet
-// alone; trains of four kinds; the train of a lower; reports of stretches that touch; and its sample record with the report.
+// alone; trains of four kinds; the train of a lower; 96 trains; reports of stretches that touch; a record with a five-digit train; and its
+// sample record with the report.
 // A step shows 0 (taken with no command), D with its train or U (taken, with that command) or its refusal number; `second/expected` has the
 // same lines.
 use arm::Gate;
@@ -142,12 +143,12 @@ fn cases_e_f() {
     print(b"\n");
 }
 
-// Approaches of trains 0, 97 and 96.
+// Approaches of trains 0, 65,536 and 65,535.
 fn case_g() {
     print(b"g");
     let b = shown(fresh().approach(Kind::Loaded, 0));
-    let c = shown(b.approach(Kind::Loaded, 97));
-    shown(c.approach(Kind::Loaded, 96));
+    let c = shown(b.approach(Kind::Loaded, 65536));
+    shown(c.approach(Kind::Loaded, 65535));
     print(b"\n");
 }
 
@@ -315,7 +316,7 @@ fn cabinet_alone() {
     let c = heard(c.leave(1));
     heard(c.clock());
     let c = heard(fresh.approach(Kind::Loaded, 0));
-    let c = heard(c.approach(Kind::Loaded, 97));
+    let c = heard(c.approach(Kind::Loaded, 65536));
     let c = heard(c.approach(Kind::Loaded, 1));
     let c = heard(c.approach(Kind::Loaded, 1));
     let c = heard(c.leave(2));
@@ -485,6 +486,70 @@ fn named_of_two() {
     );
 }
 
+// ---- 96 trains
+
+// Trains 65,535 down to 65,440 approach at 0.
+fn crowd() -> Bench {
+    let mut b = fresh();
+    for i in 0..96 {
+        let m = b.approach(Kind::Loaded, 65535 - i);
+        b = m.bench;
+    }
+    b
+}
+
+// One more, a present one again, and no train's number; then the arm falls, one goes inside and leaves, and its entry serves a new number.
+fn full() {
+    let b = crowd();
+    print(b"full");
+    show(b.table.present() as u64);
+    let b = shown(b.approach(Kind::Loaded, 7));
+    let b = shown(b.approach(Kind::Loaded, 65500));
+    let b = shown(b.approach(Kind::Loaded, 0));
+    let b = shown(b.approach(Kind::Loaded, 65536));
+    let b = shown(b.clock(90.0));
+    let b = shown(b.clock(45.0));
+    let b = shown(b.clock(0.0));
+    let b = shown(b.occupy(65500));
+    let b = shown(b.approach(Kind::Loaded, 65500));
+    let b = shown(b.approach(Kind::Loaded, 7));
+    let b = shown(b.leave(65500));
+    let b = shown(b.approach(Kind::Loaded, 7));
+    let b = shown(b.approach(Kind::Loaded, 8));
+    let b = shown(b.approach(Kind::Loaded, 7));
+    shown(b.approach(Kind::Loaded, 65500));
+    print(b"\n");
+}
+
+// A cabinet alone that hears the same 96.
+fn crowd_alone() -> Cabinet {
+    let mut c = cabinet::start(worked::settings_k()).cabinet;
+    for i in 0..96 {
+        let s = c.approach(Kind::Loaded, 65535 - i);
+        c = s.cabinet;
+    }
+    c
+}
+
+fn full_alone() {
+    let c = crowd_alone();
+    print(b"fullalone");
+    show(c.trains_present() as u64);
+    let c = heard(c.approach(Kind::Loaded, 7));
+    let c = heard(c.approach(Kind::Loaded, 65500));
+    let c = heard(c.approach(Kind::Loaded, 0));
+    let c = heard(c.approach(Kind::Loaded, 65536));
+    let c = heard(c.leave(65500));
+    let c = heard(c.leave(65500));
+    let c = heard(c.approach(Kind::Loaded, 7));
+    let c = heard(c.approach(Kind::Loaded, 8));
+    let c = heard(c.approach(Kind::Loaded, 7));
+    let c = heard(c.clock());
+    let c = heard(c.leave(7));
+    heard(c.approach(Kind::Loaded, 65500));
+    print(b"\n");
+}
+
 // ---- stretches that touch
 
 // The report of a list of at most 16 steps from a fresh bench under K; its record and its report fill the two buffers.
@@ -538,7 +603,7 @@ fn joined_ended() {
         b"AATTTOTLOTLT",
         &[1u32, 2, 0, 0, 0, 1, 0, 1, 2, 0, 2, 0],
         &arm_of_two(),
-        &mut [0u8; 435],
+        &mut [0u8; 464],
         &mut [0u8; 57],
     );
     print(b"chain");
@@ -563,7 +628,7 @@ fn joined_ended() {
             0.0,
             90.0,
         ],
-        &mut [0u8; 495],
+        &mut [0u8; 528],
         &mut [0u8; 57],
     );
 }
@@ -575,7 +640,7 @@ fn joined_running() {
         b"AATTTOTLOT",
         &[1u32, 2, 0, 0, 0, 1, 0, 1, 2, 0],
         &arm_of_two(),
-        &mut [0u8; 390],
+        &mut [0u8; 416],
         &mut [0u8; 57],
     );
     print(b"instant");
@@ -599,7 +664,7 @@ fn joined_running() {
             0.0,
             90.0,
         ],
-        &mut [0u8; 480],
+        &mut [0u8; 512],
         &mut [0u8; 57],
     );
 }
@@ -611,7 +676,7 @@ fn not_joined() {
         b"AATTTOTOLTLT",
         &[1u32, 2, 0, 0, 0, 1, 0, 2, 1, 0, 2, 0],
         &arm_of_two(),
-        &mut [0u8; 435],
+        &mut [0u8; 464],
         &mut [0u8; 57],
     );
     print(b"gap");
@@ -633,30 +698,42 @@ fn not_joined() {
             0.0,
             90.0,
         ],
-        &mut [0u8; 450],
+        &mut [0u8; 480],
         &mut [0u8; 76],
     );
 }
 
 // ---- the sample record
 
-// The sample, whole, and its report: 25 lines of 15 bytes, and 3 of 19.
-fn sample() {
+// The sample run of this train: 25 lines of 16 bytes.
+fn sample_record(train: u32) -> [u8; 400] {
     let mut answers = [0u8; 8];
     let mut orders = [0u8; 8];
     let mut named = [0u32; 8];
-    let mut text = [0u8; 375];
-    let mut lines = [0u8; 57];
+    let mut text = [0u8; 400];
     recording::record_run(
         worked::settings_k(),
         b"ATTTOTLT",
-        &[1u32, 0, 0, 0, 1, 0, 1, 0],
+        &[train, 0, 0, 0, train, 0, train, 0],
         &[0.0f32, 90.0, 45.0, 0.0, 0.0, 0.0, 0.0, 90.0],
         &mut answers,
         &mut orders,
         &mut named,
         &mut text,
     );
+    text
+}
+
+// With the highest train number.
+fn five_digits() {
+    print(b"five\n");
+    print(&sample_record(65535));
+}
+
+// As it is, and its report: 3 lines of 19 bytes.
+fn sample() {
+    let text = sample_record(1);
+    let mut lines = [0u8; 57];
     report::report(&text, &mut lines);
     print(&text);
     print(&lines);
@@ -683,8 +760,11 @@ fn main() {
     kinds_alone();
     named_first();
     named_of_two();
+    full();
+    full_alone();
     joined_ended();
     joined_running();
     not_joined();
+    five_digits();
     sample();
 }

@@ -97,9 +97,10 @@ fn kind_number(e: Entry) -> u32
     }
 }
 
-// The bench by numbers: instant, angle, angle before and command, then the standing of each train, the instant of its approach and its kind.
+// The bench by numbers: instant, angle, angle before and command, then of each entry of the table its train's number, kind, standing and
+// instant of approach.
 fn write_bench(b: Bench, state: &mut [u32])
-    requires { ⌜ 292 ≤ length (now state) ⌝ }
+    requires { ⌜ 388 ≤ length (now state) ⌝ }
     ensures { λ _. ⌜ now (state .exit) ≡ over (benchNumbers b) (now (state .entry)) ⌝ }
 {
     let motion = b.head.motion;
@@ -110,22 +111,23 @@ fn write_bench(b: Bench, state: &mut [u32])
     state[1] = motion.angle as u32;
     state[2] = motion.previous as u32;
     state[3] = command_number(command);
-    let mut n: u32 = 1;
+    let mut place: usize = 0;
     let mut i: usize = 4;
-    while n <= 96 {
-        let e = table.entry_of(n);
+    while place < 96 {
+        let e = table.shown_at(place);
         let standing = e.standing;
-        state[i] = standing_number(standing);
-        state[i + 1] = trains::since_of(standing);
-        state[i + 2] = kind_number(e);
-        n = n + 1;
-        i = i + 3;
+        state[i] = e.number as u32;
+        state[i + 1] = kind_number(e);
+        state[i + 2] = standing_number(standing);
+        state[i + 3] = trains::since_of(standing);
+        place = place + 1;
+        i = i + 4;
     }
 }
 
-// A run as `weqhaso_run` does it, and the bench after it in the first 292 places of `state`: instant, angle, angle before, command
-// (0 up, 1 down), then for each train 1 to 96 its standing (0 away, 1 coming, 2 inside), the instant of its approach and its kind (1 to 4, 0
-// where it is away). 14 last, where there are fewer places.
+// A run as `weqhaso_run` does it, and the bench after it in the first 388 places of `state`: instant, angle, angle before, command
+// (0 up, 1 down), then for each of the table's 96 entries the number of the train that has it, its kind (1 to 4), its standing (1 coming,
+// 2 inside) and the instant of its approach; four zeros where no train has it. 14 last, where there are fewer places.
 #[no_mangle]
 pub extern "C" fn weqhaso_state(
     values: &[u32],
@@ -145,7 +147,7 @@ pub extern "C" fn weqhaso_state(
         (now (state .entry)) (now (state .exit)) ⌝ }
 {
     let s = settings::of_values(values);
-    let space = 292 <= state.len();
+    let space = 388 <= state.len();
     let r = runs::run_with(s, letters, numbers, readings, answers, orders, named, space);
     let v = r.verdict;
     let k = settings::number(v);

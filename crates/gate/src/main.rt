@@ -65,7 +65,7 @@ fn asks_report() -> bool {
 
 // The report of a text, at the start of a buffer that holds every report, its other bytes as they were: how many bytes the report has.
 fn make_report(text: &[u8], out: &mut [u8]) -> usize
-    requires { ⌜ 166000 ≤ length (now out) ⌝ }
+    requires { ⌜ 156000 ≤ length (now out) ⌝ }
     ensures { λ r. ⌜ Held r (reportOf (now (text .entry))) (now (out .entry)) (now (out .exit)) ⌝ }
 {
     let r = report::report(text, out);
@@ -74,7 +74,7 @@ fn make_report(text: &[u8], out: &mut [u8]) -> usize
 
 // The report of a text, on standard output.
 fn write_report(text: &[u8]) {
-    let mut out = [0u8; 166000];
+    let mut out = [0u8; 156000];
     let n = make_report(text, &mut out);
     if !io::write_all(STDOUT_FILENO, &out[..n]) {
         os::fail(b"gate: standard output");

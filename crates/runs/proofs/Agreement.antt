@@ -7,13 +7,14 @@ use native.Mathlib.Decide.{ℕ-discrete}
 use mathlib.Core.Path.{_≡_, refl, sym, _∙_, ap, ap₂}
 use mathlib.Core.Bool.{Bool, true, false, not, _&&_, cond, true≢false}
 use mathlib.Core.List.{List, [], _∷_, map}
-use mathlib.Core.Logic.{_≢_}
+use mathlib.Core.Logic.{inl, inr, _≢_}
 use lib.Dec.{leb, ltb, eqb}
 use lib.Ieee.{Float}
 use borrow.Author.Tests.{eqb-true, eqb-false, eq-eqb, ne-eqb, le-leb, lt-leb}
 use Rattle.settings.specs.declared.Kind.{Kind}
 use Rattle.settings.specs.declared.Settings.{Settings}
 use Rattle.settings.specs.Refusal.{refuse, unless}
+use Rattle.settings.proofs.Laws.{both}
 use Rattle.settings.specs.Settings.{timesOf, ticksOf}
 use Rattle.arm.specs.declared.Command.{Command}
 use Rattle.arm.specs.declared.Command.the-variants.{Up, Down}
@@ -23,11 +24,11 @@ use Rattle.trains.specs.declared.Table.{Table}
 use Rattle.trains.specs.Trains as standing
 use Rattle.trains.specs.Trains.{isTrain}
 use Rattle.trains.specs.Table as table
-use Rattle.trains.specs.Table.{awayEntry, comingEntry, insideEntry, entryOf, standingOf, put, someEntry}
+use Rattle.trains.specs.Table.{awayEntry, comingEntry, insideEntry, entryOf, standingOf, put, someEntry, weight, presentIn}
 use Rattle.trains.specs.declared.Question.the-variants.{Due}
 use Rattle.trains.specs.First.{hasOwn, instantOf, ownOf, trainOf, firstIn}
 use Rattle.trains.proofs.Firsts.{first-is}
-use Rattle.trains.proofs.Laws.{fresh-formed, fresh-away, put-formed, put-same, put-other, some-train, train-some}
+use Rattle.trains.proofs.Laws.{Fits, Room, coming-fits, inside-fits, present-own, fresh-formed, fresh-away, fresh-present, less-room, put-present, put-formed, put-same, put-other, some-train, train-some}
 use Rattle.cabinet.specs.declared.Order.{Order}
 use Rattle.cabinet.specs.declared.Order.the-variants.{Nothing}
 use Rattle.cabinet.specs.declared.Answer.the-variants.{Taken}
@@ -40,10 +41,11 @@ use Rattle.bench.specs.declared.Bench.{Bench}
 use Rattle.bench.specs.declared.Moved.{Moved}
 use Rattle.bench.specs.Bench.{nowOf, commandOf, armOf, entryAt, standsAt, freshHead, freshBench, occupyRefusal, benchLeaveRefusal}
 use Rattle.bench.specs.Full.{Kept, fullLooked, fullPut, fullEntered, fullSensed, fullClockRefusal, fullClocked, refused}
+use Rattle.bench.proofs.Laws.{coming-present}
 use Rattle.bench.proofs.Kept.{kept-fresh}
 use Rattle.runs.specs.declared.Step.{Step}
 use Rattle.runs.specs.declared.Step.the-variants.{Approach, Occupy, Leave, Clock}
-use Rattle.runs.specs.History.{History, instant, arm, armBefore, Place, away, coming, inside, place, isAway, isComing, isInside, since, kindOf, dueAt, latestAt, someTrain, someDue, dueOf, soonest, someLate, look, command, stepRefusal, keep, after, given, orderBetween, orderAt, history, stepRefusals, orders}
+use Rattle.runs.specs.History.{History, instant, arm, armBefore, Place, away, coming, inside, place, isAway, isComing, isInside, since, kindOf, trainsPresent, dueAt, latestAt, someTrain, someDue, dueOf, soonest, someLate, look, command, stepRefusal, keep, after, given, orderBetween, orderAt, history, stepRefusals, orders}
 use Rattle.runs.specs.Steps.{stateAfter, answersTo, benchStepped, benchAfter, benchAnswers}
 use Rattle.runs.specs.Kept.{fullStepped}
 use Rattle.runs.specs.Match.{Valid, shown, Core, Match}
@@ -58,67 +60,77 @@ use Rattle.runs.proofs.Kept.{step-full, step-kept}
 
 module _ {told : Bool} {s : Settings} {h : History} {u : Settings} {i : ℕ} {t : Table} (m : Core told s h u i t) where
   -- what is asked of a train's entry, from what the rules say of the train
-  by-entry : {A : Type 0} (f : Entry → A) (g : Place → ℕ → Kind → A) → ((p : Place) (a : ℕ) (k : Kind) → f (shown told p a k) ≡ g p a k) →
-      (n : ℕ) → f (entryOf t n) ≡ g (place n h) (since n h) (kindOf n h)
-  by-entry f g e n = ap f (m .stands n) ∙ e (place n h) (since n h) (kindOf n h)
+  by-entry : {A : Type 0} (f : Entry → A) (g : Place → ℕ → Kind → A) (n : ℕ) → ((p : Place) (a : ℕ) (k : Kind) → f (shown told n p a k) ≡ g p a k) →
+      f (entryOf t n) ≡ g (place n h) (since n h) (kindOf n h)
+  by-entry f g n e = ap f (m .stands n) ∙ e (place n h) (since n h) (kindOf n h)
 
   pub present-is : (n : ℕ) → standing.isPresent (standingOf t n) ≡ not (isAway (place n h))
-  present-is = by-entry (λ (e : Entry). standing.isPresent (e .standing)) (λ p a k. not (isAway p)) (each told)
+  present-is n = by-entry (λ (e : Entry). standing.isPresent (e .standing)) (λ p a k. not (isAway p)) n (each told)
     where
-      each : (told : Bool) (p : Place) (a : ℕ) (k : Kind) → standing.isPresent (shown told p a k .standing) ≡ not (isAway p)
+      each : (told : Bool) (p : Place) (a : ℕ) (k : Kind) → standing.isPresent (shown told n p a k .standing) ≡ not (isAway p)
       each told away a k = refl
       each told coming a k = refl
       each true inside a k = refl
       each false inside a k = refl
 
-  pub approach-number : (k : Kind) (n : ℕ) → approachRefusal n (standingOf t n) ≡ stepRefusal s h (Approach k n)
-  unfolding approachRefusal stepRefusal
-  approach-number k n = ap (λ (b : Bool). refuse (not (isTrain n)) 5 (refuse b 6 0)) (present-is n)
+  pub approach-number : (k : Kind) (n : ℕ) → approachRefusal n (standingOf t n) (table.isFull t) ≡ stepRefusal s h (Approach k n)
+  unfolding approachRefusal stepRefusal table.isFull
+  approach-number k n = ap₂ (λ (b : Bool) (j : ℕ). refuse (not (isTrain n)) 5 (refuse b 6 (refuse (leb 96 j) 17 0))) (present-is n) (m .present)
 
   -- a look over the table, for trains that are not away, is the look of the history
-  table-some : (test : Entry → Bool) (g : Place → ℕ → Kind → Bool) → test awayEntry ≡ false → ((p : Place) (a : ℕ) (k : Kind) → test (shown told p a k) ≡ g p a k) →
-      someEntry test t ≡ someTrain h (λ n. g (place n h) (since n h) (kindOf n h))
-  table-some test g none each = go (someEntry test t) (someTrain h by) refl refl
+  table-some : (test : Entry → Bool) (g : Place → ℕ → Kind → Bool) → ((e : Entry) → test e ≡ true → standing.isPresent (e .standing) ≡ true) →
+      ((n : ℕ) (p : Place) (a : ℕ) (k : Kind) → test (shown told n p a k) ≡ g p a k) → someEntry test t ≡ someTrain h (λ n. g (place n h) (since n h) (kindOf n h))
+  table-some test g live each = go (someEntry test t) (someTrain h by) refl refl
     where
       by : ℕ → Bool
       by n = g (place n h) (since n h) (kindOf n h)
 
-      present : (p : Place) (a : ℕ) (k : Kind) → test (shown told p a k) ≡ true → isAway p ≡ false
-      present away a k e = absurd (true≢false (sym e ∙ none))
-      present coming a k e = refl
-      present inside a k e = refl
+      none : test awayEntry ≡ false
+      none = bare (test awayEntry) refl
+        where
+          bare : (b : Bool) → test awayEntry ≡ b → b ≡ false
+          bare true e = sym (live awayEntry e)
+          bare false e = refl
+
+      present : (n : ℕ) (p : Place) (a : ℕ) (k : Kind) → test (shown told n p a k) ≡ true → isAway p ≡ false
+      present n away a k e = absurd (true≢false (sym e ∙ none))
+      present n coming a k e = refl
+      present n inside a k e = refl
 
       go : (a b : Bool) → someEntry test t ≡ a → someTrain h by ≡ b → a ≡ b
       go true true p q = refl
       go true false p q =
-          let w = some-train test t (m .formed) p in
-          sym (some-present by (w .0) (sym (by-entry test g each (w .0)) ∙ w .1) h (present (place (w .0) h) (since (w .0) h) (kindOf (w .0) h) (ap test (sym (m .stands (w .0))) ∙ w .1))) ∙ q
-      go false true p q = let w = some-true by h q in sym p ∙ train-some test t (m .formed) none (w .0) (by-entry test g each (w .0) ∙ w .1)
+          let w = some-train test t (m .formed) live p in
+          sym (some-present by (w .0) (sym (by-entry test g (w .0) (each (w .0))) ∙ w .1) h
+          (present (w .0) (place (w .0) h) (since (w .0) h) (kindOf (w .0) h) (ap test (sym (m .stands (w .0))) ∙ w .1))) ∙ q
+      go false true p q = let w = some-true by h q in sym p ∙ train-some test t (m .formed) none (w .0) (by-entry test g (w .0) (each (w .0)) ∙ w .1)
       go false false p q = refl
 
   table-due : (x : ℕ) → table.dueBy t s x ≡ someDue s h x
   unfolding standing.isDue dueAt
-  table-due x = table-some (standing.isDue s x) (λ p a k. not (isAway p) && leb (a + timesOf s k .earliest) x) refl (each told)
+  table-due x =
+      table-some (standing.isDue s x) (λ p a k. not (isAway p) && leb (a + timesOf s k .earliest) x)
+      (λ e p. both (standing.isPresent (e .standing)) (leb (standing.dueInstant s e) x) p .0) (each told)
     where
-      each : (told : Bool) (p : Place) (a : ℕ) (k : Kind) → standing.isDue s x (shown told p a k) ≡ (not (isAway p) && leb (a + timesOf s k .earliest) x)
-      each told away a k = refl
-      each told coming a k = refl
-      each true inside a k = refl
-      each false inside a k = refl
-
-  -- who is due soonest in the table is who is by the history
-  pub table-soonest : firstIn s Due t ≡ soonest s h
-  unfolding ownOf hasOwn instantOf
-  table-soonest = soonest-only s h (λ n. ownOf s Due n (entryOf t n)) same (firstIn s Due t) (first-is s Due t (m .formed))
-    where
-      each : (told : Bool) (n : ℕ) (p : Place) (a : ℕ) (k : Kind) → ownOf s Due n (shown told p a k) ≡ dueFrom s n p a k
+      each : (told : Bool) (n : ℕ) (p : Place) (a : ℕ) (k : Kind) → standing.isDue s x (shown told n p a k) ≡ (not (isAway p) && leb (a + timesOf s k .earliest) x)
       each told n away a k = refl
       each told n coming a k = refl
       each true n inside a k = refl
       each false n inside a k = refl
 
-      same : (n : ℕ) → ownOf s Due n (entryOf t n) ≡ dueOf s h n
-      same n = by-entry (ownOf s Due n) (dueFrom s n) (each told n) n ∙ sym (due-from s h n)
+  -- who is due soonest in the table is who is by the history
+  pub table-soonest : firstIn s Due t ≡ soonest s h
+  unfolding ownOf hasOwn instantOf
+  table-soonest = soonest-only s h (λ n. ownOf s Due (entryOf t n)) same (firstIn s Due t) (first-is s Due t (m .formed))
+    where
+      each : (told : Bool) (n : ℕ) (p : Place) (a : ℕ) (k : Kind) → ownOf s Due (shown told n p a k) ≡ dueFrom s n p a k
+      each told n away a k = refl
+      each told n coming a k = refl
+      each true n inside a k = refl
+      each false n inside a k = refl
+
+      same : (n : ℕ) → ownOf s Due (entryOf t n) ≡ dueOf s h n
+      same n = by-entry (ownOf s Due) (dueFrom s n) n (each told n) ∙ sym (due-from s h n)
 
   -- the full look: the order is the rules', and so is the command after it
   abbrev Looked : Order → Command → Type 0
@@ -142,43 +154,70 @@ module _ {told : Bool} {s : Settings} {h : History} {u : Settings} {i : ℕ} {t 
   -- ---- what a step makes of the table and the clock
 
   -- a step that names a train: its entry is put, and the others stay
-  named : (x : Step) (n : ℕ) (entry : Entry) → isTrain n ≡ true → instant (x ∷ h) ≡ instant h → entry ≡ shown told (place n (x ∷ h)) (since n (x ∷ h)) (kindOf n (x ∷ h)) →
-      ((k : ℕ) → k ≢ n → SameTrain k (x ∷ h) h) → Core told s (x ∷ h) u i (put t n entry)
-  named x n entry train same e others =
-      record { settings = m .settings; now = m .now ∙ sym same; formed = put-formed t n entry (m .formed); stands = λ k. there k (ℕ-discrete k n) }
+  named : (x : Step) (n : ℕ) (entry : Entry) → Room t n → Fits n entry → instant (x ∷ h) ≡ instant h →
+      entry ≡ shown told n (place n (x ∷ h)) (since n (x ∷ h)) (kindOf n (x ∷ h)) → ((k : ℕ) → k ≢ n → SameTrain k (x ∷ h) h) →
+      presentIn (put t n entry) ≡ trainsPresent (x ∷ h) → Core told s (x ∷ h) u i (put t n entry)
+  named x n entry room fits same e others count =
+      record {
+        settings = m .settings;
+        now = m .now ∙ sym same;
+        formed = put-formed t n entry (m .formed) room fits;
+        stands = λ k. there k (ℕ-discrete k n);
+        present = count;
+      }
     where
-      there : (k : ℕ) → Dec (k ≡ n) → entryOf (put t n entry) k ≡ shown told (place k (x ∷ h)) (since k (x ∷ h)) (kindOf k (x ∷ h))
-      there k (yes d) = rw d (put-same t n entry (m .formed) train ∙ e)
-      there k (no d) = let o = others k d in put-other t n entry k d ∙ m .stands k ∙ sym (λ j. shown told (o .0 j) (o .1 j) (o .2 j))
+      there : (k : ℕ) → Dec (k ≡ n) → entryOf (put t n entry) k ≡ shown told k (place k (x ∷ h)) (since k (x ∷ h)) (kindOf k (x ∷ h))
+      there k (yes d) = rw d (put-same t n entry (m .formed) room fits ∙ e)
+      there k (no d) = let o = others k d in put-other t n entry (m .formed) room fits k d ∙ m .stands k ∙ sym (λ j. shown told k (o .0 j) (o .1 j) (o .2 j))
 
-  approach-core : (k : Kind) (n : ℕ) → stepRefusal s h (Approach k n) ≡ 0 → Core told s (Approach k n ∷ h) u i (put t n (comingEntry k i))
+  -- whether a train is present, by where it is
+  away-is : (n : ℕ) → place n h ≡ away → standing.isPresent (standingOf t n) ≡ false
+  away-is n e = present-is n ∙ ap (λ (p : Place). not (isAway p)) e
+
+  here-is : (n : ℕ) → isAway (place n h) ≡ false → standing.isPresent (standingOf t n) ≡ true
+  here-is n e = present-is n ∙ ap not e
+
+  -- an approach brings one more, and there is room for it
+  approach-core : (k : Kind) (n : ℕ) → stepRefusal s h (Approach k n) ≡ 0 → Core told s (Approach k n ∷ h) u i (put t n (comingEntry n k i))
   approach-core k n ok =
-      named (Approach k n) n (comingEntry k i) (approach-ok s h k n ok .0) refl (rw (eq-eqb n n refl) (ap (comingEntry k) (m .now)))
-      (λ j d. let e = ne-eqb n j (λ z. d (sym z)) in (rw e, rw e, rw e))
+      let f = approach-ok s h k n ok in
+      let room : Room t n = inr (less-room t (let e = m .present in let l = f .2 in omega arith)) in
+      let count = put-present t n (comingEntry n k i) (m .formed) room in
+      let absent : weight (standingOf t n) ≡ 0 = ap (λ (b : Bool). cond b 1 0) (away-is n (f .1)) in
+      named (Approach k n) n (comingEntry n k i) room (coming-fits n i k) refl (rw (eq-eqb n n refl) (ap (comingEntry n k) (m .now)))
+      (λ j d. let e = ne-eqb n j (λ z. d (sym z)) in (rw e, rw e, rw e)) (omega (arith, count, absent, m .present))
 
+  -- a leave one fewer
   leave-core : (n : ℕ) → stepRefusal s h (Leave n) ≡ 0 → Core told s (Leave n ∷ h) u i (put t n awayEntry)
   leave-core n ok =
-      named (Leave n) n awayEntry (leave-ok s h n ok .0) refl (rw (eq-eqb n n refl))
-      (λ k d. let e = ne-eqb n k (λ z. d (sym z)) in (rw e, refl, refl))
+      let here = here-is n (ap isAway (leave-ok s h n ok .1)) in
+      let count = put-present t n awayEntry (m .formed) (inl here) in
+      let present : weight (standingOf t n) ≡ 1 = ap (λ (b : Bool). cond b 1 0) here in
+      named (Leave n) n awayEntry (inl here) (inr refl) refl (rw (eq-eqb n n refl))
+      (λ k d. let e = ne-eqb n k (λ z. d (sym z)) in (rw e, refl, refl)) (omega (arith, count, present, m .present))
 
   clock-core : (r : Float) → Core told s (Clock r ∷ h) u (i + 1) t
-  clock-core r = record { settings = m .settings; now = let e = m .now in omega arith; formed = m .formed; stands = m .stands }
+  clock-core r = record { settings = m .settings; now = let e = m .now in omega arith; formed = m .formed; stands = m .stands; present = m .present }
 
 module _ {s : Settings} {h : History} {u : Settings} {i : ℕ} {t : Table} where
   -- an occupy that the table is told of: the train's entry is put
   occupy-core : Core true s h u i t → (n : ℕ) → stepRefusal s h (Occupy n) ≡ 0 → Core true s (Occupy n ∷ h) u i (put t n (insideEntry (entryOf t n)))
   occupy-core m n ok =
       let f = occupy-ok s h n ok in
-      let a = ap insideEntry (m .stands n ∙ ap (λ (p : Place). shown true p (since n h) (kindOf n h)) (f .1)) in
-      named m (Occupy n) n (insideEntry (entryOf t n)) (f .0) refl (rw (eq-eqb n n refl) a)
-      (λ k d. let e = ne-eqb n k (λ z. d (sym z)) in (rw e, refl, refl))
+      let a = ap insideEntry (m .stands n ∙ ap (λ (p : Place). shown true n p (since n h) (kindOf n h)) (f .1)) in
+      let here = here-is m n (ap isAway (f .1)) in
+      let count = put-present t n (insideEntry (entryOf t n)) (m .formed) (inl here) in
+      let present : weight (standingOf t n) ≡ 1 = ap (λ (b : Bool). cond b 1 0) here in
+      named m (Occupy n) n (insideEntry (entryOf t n)) (inl here) (inside-fits n (entryOf t n) (present-own t n here)) refl (rw (eq-eqb n n refl) a)
+      (λ k d. let e = ne-eqb n k (λ z. d (sym z)) in (rw e, refl, refl)) (omega (arith, count, present, m .present))
 
   -- and one that it is not told of: all is as it was
   pub untold-core : Core false s h u i t → (n : ℕ) → stepRefusal s h (Occupy n) ≡ 0 → Core false s (Occupy n ∷ h) u i t
-  untold-core m n ok = record { settings = m .settings; now = m .now; formed = m .formed; stands = λ k. m .stands k ∙ there k (eqb n k) refl }
+  untold-core m n ok =
+      record { settings = m .settings; now = m .now; formed = m .formed; stands = λ k. m .stands k ∙ there k (eqb n k) refl; present = m .present }
     where
-      there : (k : ℕ) (b : Bool) → eqb n k ≡ b → shown false (place k h) (since k h) (kindOf k h) ≡ shown false (cond b inside (place k h)) (since k h) (kindOf k h)
-      there k true e = ap (λ (p : Place). shown false p (since k h) (kindOf k h)) (ap (λ (j : ℕ). place j h) (sym (eqb-true n k e)) ∙ occupy-ok s h n ok .1)
+      there : (k : ℕ) (b : Bool) → eqb n k ≡ b → shown false k (place k h) (since k h) (kindOf k h) ≡ shown false k (cond b inside (place k h)) (since k h) (kindOf k h)
+      there k true e = ap (λ (p : Place). shown false k p (since k h) (kindOf k h)) (ap (λ (j : ℕ). place j h) (sym (eqb-true n k e)) ∙ occupy-ok s h n ok .1)
       there k false e = refl
 
 -- the clock's end
@@ -212,9 +251,9 @@ heeds {s = s} {h = h} x t w core same looks =
 
 module _ {told : Bool} {s : Settings} {h : History} {u : Settings} {t : Table} {w : Control} (m : Core told s h u (w .now) t) (same : w .command ≡ command s h) where
   pub approach-heeds : (k : Kind) (n : ℕ) → stepRefusal s h (Approach k n) ≡ 0 →
-      Heeds told s h (Approach k n) u (put t n (comingEntry k (w .now))) (fullLookedAt u (put t n (comingEntry k (w .now))) w)
+      Heeds told s h (Approach k n) u (put t n (comingEntry n k (w .now))) (fullLookedAt u (put t n (comingEntry n k (w .now))) w)
   unfolding command
-  approach-heeds k n ok = heeds (Approach k n) (put t n (comingEntry k (w .now))) w (approach-core m k n ok) same refl
+  approach-heeds k n ok = heeds (Approach k n) (put t n (comingEntry n k (w .now))) w (approach-core m k n ok) same refl
 
   pub leave-heeds : (n : ℕ) → stepRefusal s h (Leave n) ≡ 0 → Heeds told s h (Leave n) u (put t n awayEntry) (fullLookedAt u (put t n awayEntry) w)
   unfolding command
@@ -261,18 +300,18 @@ module _ (s : Settings) (h : History) (b : Bench) (m : Match s h b) where
   -- ---- the refusal numbers are the rules'
 
   inside-is : (n : ℕ) → standing.isInside (standsAt b n) ≡ isInside (place n h)
-  inside-is = by-entry (m .core) (λ (e : Entry). standing.isInside (e .standing)) (λ p a k. isInside p) each
+  inside-is n = by-entry (m .core) (λ (e : Entry). standing.isInside (e .standing)) (λ p a k. isInside p) n each
     where
-      each : (p : Place) (a : ℕ) (k : Kind) → standing.isInside (shown true p a k .standing) ≡ isInside p
+      each : (p : Place) (a : ℕ) (k : Kind) → standing.isInside (shown true n p a k .standing) ≡ isInside p
       each away a k = refl
       each coming a k = refl
       each inside a k = refl
 
   -- the table is told of occupies
-  entry-is : (n : ℕ) → entryAt b n ≡ entryFrom (place n h) (since n h) (kindOf n h)
-  entry-is = by-entry (m .core) (λ (e : Entry). e) entryFrom each
+  entry-is : (n : ℕ) → entryAt b n ≡ entryFrom n (place n h) (since n h) (kindOf n h)
+  entry-is n = by-entry (m .core) (λ (e : Entry). e) (entryFrom n) n each
     where
-      each : (p : Place) (a : ℕ) (k : Kind) → shown true p a k ≡ entryFrom p a k
+      each : (p : Place) (a : ℕ) (k : Kind) → shown true n p a k ≡ entryFrom n p a k
       each away a k = refl
       each coming a k = refl
       each inside a k = refl
@@ -283,12 +322,12 @@ module _ (s : Settings) (h : History) (b : Bench) (m : Match s h b) where
 
   occupy-number : (n : ℕ) → occupyRefusal (b .head .settings) (nowOf b) n (entryAt b n) ≡ stepRefusal s h (Occupy n)
   unfolding occupyRefusal stepRefusal dueAt
-  occupy-number n = ap (refuse (not (isTrain n)) 5) (rw (m .core .now, m .core .settings) (by-entry (m .core) now-coming occupyNumber each n))
+  occupy-number n = ap (refuse (not (isTrain n)) 5) (rw (m .core .now, m .core .settings) (by-entry (m .core) now-coming occupyNumber n each))
     where
       now-coming : Entry → ℕ
       now-coming e = refuse (not (standing.isComing (e .standing))) 7 (refuse (ltb (instant h) (standing.dueInstant s e)) 8 0)
 
-      each : (p : Place) (a : ℕ) (k : Kind) → now-coming (shown true p a k) ≡ occupyNumber p a k
+      each : (p : Place) (a : ℕ) (k : Kind) → now-coming (shown true n p a k) ≡ occupyNumber p a k
       each away a k = refl
       each coming a k = refl
       each inside a k = refl
@@ -299,12 +338,14 @@ module _ (s : Settings) (h : History) (b : Bench) (m : Match s h b) where
 
   table-late : table.someLate (b .table) s (instant h) ≡ someLate s h
   unfolding standing.isLate latestAt
-  table-late = table-some (m .core) (standing.isLate s (instant h)) (λ p a k. isComing p && leb (a + timesOf s k .latest) (instant h)) refl each
+  table-late =
+      table-some (m .core) (standing.isLate s (instant h)) (λ p a k. isComing p && leb (a + timesOf s k .latest) (instant h))
+      (λ e p. coming-present (e .standing) (both (standing.isComing (e .standing)) (leb (standing.latestInstant s e) (instant h)) p .0)) each
     where
-      each : (p : Place) (a : ℕ) (k : Kind) → standing.isLate s (instant h) (shown true p a k) ≡ (isComing p && leb (a + timesOf s k .latest) (instant h))
-      each away a k = refl
-      each coming a k = refl
-      each inside a k = refl
+      each : (n : ℕ) (p : Place) (a : ℕ) (k : Kind) → standing.isLate s (instant h) (shown true n p a k) ≡ (isComing p && leb (a + timesOf s k .latest) (instant h))
+      each n away a k = refl
+      each n coming a k = refl
+      each n inside a k = refl
 
   clock-number : Valid s h → (r : Float) → fullClockRefusal b (readingOf r) ≡ stepRefusal s h (Clock r)
   unfolding fullClockRefusal stepRefusal
@@ -315,8 +356,8 @@ module _ (s : Settings) (h : History) (b : Bench) (m : Match s h b) where
   full-stands : Valid s h → (x : Step) → Kept (fullStepped b x .bench) → Stands s h x (stepRefusal s h x) (fullStepped b x)
   unfolding fullSensed fullClocked command
   full-stands v (Approach kind n) k =
-      by-number (Approach kind n) (approachRefusal n (standsAt b n)) (fullPut b n (comingEntry kind (nowOf b))) (approach-number (m .core) kind n)
-      (λ ok. with-arm (Approach kind n) (put (b .table) n (comingEntry kind (nowOf b))) (b .head .motion) (approach-heeds (m .core) (m .command) kind n ok) (m .angle) (m .previous)) k
+      by-number (Approach kind n) (approachRefusal n (standsAt b n) (table.isFull (b .table))) (fullPut b n (comingEntry n kind (nowOf b))) (approach-number (m .core) kind n)
+      (λ ok. with-arm (Approach kind n) (put (b .table) n (comingEntry n kind (nowOf b))) (b .head .motion) (approach-heeds (m .core) (m .command) kind n ok) (m .angle) (m .previous)) k
   full-stands v (Occupy n) k =
       by-number (Occupy n) (occupyRefusal (b .head .settings) (nowOf b) n (entryAt b n)) (fullEntered b n) (occupy-number n)
       (λ ok. record { answer = ap Taken (sym (unmoved _ (command s h))); core = occupy-core (m .core) n ok; command = m .command; angle = m .angle; previous = m .previous }) k
@@ -336,7 +377,7 @@ module _ (s : Settings) (h : History) (b : Bench) (m : Match s h b) where
 
 -- at the beginning
 pub fresh-core : (told : Bool) (s : Settings) → Core told s [] s 0 table.freshTable
-fresh-core told s = record { settings = refl; now = refl; formed = fresh-formed; stands = fresh-away }
+fresh-core told s = record { settings = refl; now = refl; formed = fresh-formed; stands = fresh-away; present = fresh-present }
 
 pub fresh-match : (s : Settings) → Match s [] (freshBench s)
 unfolding freshBench freshHead command

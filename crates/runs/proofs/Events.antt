@@ -1,18 +1,18 @@
 -- What a sensor's event does to the clock, to its own train and to the others, and who is present after it; by what it makes of a train, not by its letter.
 -- Assumes nothing.
-use Prim.Native.Nat.{ℕ}
+use Prim.Native.Nat.{ℕ, suc, _-_, _<_}
 use native.Mathlib.Decide.{ℕ-discrete}
 use mathlib.Core.Path.{_≡_, refl, sym, _∙_, ap, ap₂}
-use mathlib.Core.Bool.{Bool, true, false, cond, true≢false}
+use mathlib.Core.Bool.{Bool, true, false, cond, true≢false, false≢true}
 use mathlib.Core.List.{_∷_}
 use mathlib.Core.Logic.{_≢_}
 use lib.Dec.{eqb}
-use borrow.Author.Tests.{eq-eqb, ne-eqb}
+use borrow.Author.Tests.{eq-eqb, ne-eqb, lt-leb}
 use Rattle.settings.specs.declared.Settings.{Settings}
 use Rattle.bench.specs.declared.Event.{Event}
 use Rattle.bench.specs.declared.Event.the-variants as events
 use Rattle.runs.specs.declared.Step.the-variants.{Approach, Occupy, Leave}
-use Rattle.runs.specs.History.{History, instant, arm, armBefore, away, coming, inside, place, isAway, isComing, since, kindOf, dueAt, stepRefusal}
+use Rattle.runs.specs.History.{History, instant, arm, armBefore, Place, away, coming, inside, place, isAway, isComing, since, kindOf, trainsPresent, dueAt, stepRefusal}
 use Rattle.runs.specs.Letters.{eventStep}
 use Rattle.runs.specs.Swap.{placeAfter, SameTrain}
 use Rattle.runs.proofs.Rules.{approach-ok, occupy-ok}
@@ -57,13 +57,38 @@ event-alike (events.Approach c) n h g i k p = (ap (cond (eqb n k) coming) (p .0)
 event-alike events.Occupy n h g i k p = (ap (cond (eqb n k) inside) (p .0), p .1, p .2)
 event-alike events.Leave n h g i k p = (ap (cond (eqb n k) away) (p .0), p .1, p .2)
 
--- whether it is accepted lies with its own train
-pub event-number : (s : Settings) (e : Event) (n : ℕ) (h g : History) → instant h ≡ instant g → SameTrain n h g →
+-- to the number of trains present: one that comes is one more, one that goes one fewer
+abbrev pub counted : Place → ℕ → ℕ
+counted away c = c - 1
+counted coming c = suc c
+counted inside c = c
+
+pub event-count : (e : Event) (n : ℕ) (h : History) → trainsPresent (eventStep e n ∷ h) ≡ counted (placeAfter e) (trainsPresent h)
+event-count (events.Approach c) n h = refl
+event-count events.Occupy n h = refl
+event-count events.Leave n h = refl
+
+-- whether it is accepted lies with its own train and with the number of trains present
+pub event-number : (s : Settings) (e : Event) (n : ℕ) (h g : History) → instant h ≡ instant g → SameTrain n h g → trainsPresent h ≡ trainsPresent g →
     stepRefusal s h (eventStep e n) ≡ stepRefusal s g (eventStep e n)
 unfolding stepRefusal dueAt
-event-number s (events.Approach c) n h g i p = rw (p .0)
-event-number s events.Occupy n h g i p = rw (p .0, p .1, p .2, i)
-event-number s events.Leave n h g i p = rw (p .0)
+event-number s (events.Approach c) n h g i p z = rw (p .0, z)
+event-number s events.Occupy n h g i p z = rw (p .0, p .1, p .2, i)
+event-number s events.Leave n h g i p z = rw (p .0)
+
+-- so one that is accepted is so wherever its train is the same, if there is room where its train comes
+pub event-taken : (s : Settings) (e : Event) (n : ℕ) (h g : History) → instant h ≡ instant g → SameTrain n h g → (isComing (placeAfter e) ≡ true → trainsPresent g < 96) →
+    stepRefusal s h (eventStep e n) ≡ 0 → stepRefusal s g (eventStep e n) ≡ 0
+unfolding stepRefusal dueAt
+event-taken s (events.Approach c) n h g i p room ok = let f = approach-ok s h c n ok in rw (f .0, sym (p .0) ∙ f .1, lt-leb 96 (trainsPresent g) (room refl))
+event-taken s events.Occupy n h g i p room ok = rw (← (p .0), ← (p .1), ← (p .2), ← i) ok
+event-taken s events.Leave n h g i p room ok = rw (← (p .0)) ok
+
+-- where a train comes and is accepted, there is room
+pub event-room : (s : Settings) (e : Event) (n : ℕ) (h : History) → isComing (placeAfter e) ≡ true → stepRefusal s h (eventStep e n) ≡ 0 → trainsPresent h < 96
+event-room s (events.Approach c) n h z ok = approach-ok s h c n ok .2
+event-room s events.Occupy n h z ok = absurd (false≢true z)
+event-room s events.Leave n h z ok = absurd (false≢true z)
 
 -- ---- who is present
 

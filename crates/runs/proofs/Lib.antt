@@ -26,3 +26,4 @@ pub mod Turn
 pub mod Swap
 pub mod Cases
 pub mod Exception
+pub mod Present

@@ -40,11 +40,11 @@ order-most n Up Down = omega arith
 order-most n Down Up = omega arith
 order-most n Down Down = omega arith
 
--- so after accepted steps it is at most 96
-pub order-small : (s : Settings) (h g : History) → Valid s g → orderTrain (orderBetween s h g) ≤ 96
+-- so after accepted steps it is at most 65,535
+pub order-small : (s : Settings) (h g : History) → Valid s g → orderTrain (orderBetween s h g) ≤ 65535
 order-small s h g v = go (soonest s g) refl
   where
-    go : (f : First) → soonest s g ≡ f → orderTrain (orderBetween s h g) ≤ 96
+    go : (f : First) → soonest s g ≡ f → orderTrain (orderBetween s h g) ≤ 65535
     go Nobody e = let m = order-most (trainOf (soonest s g)) (command s h) (command s g) in let z : trainOf (soonest s g) ≡ 0 = ap trainOf e in omega arith
     go (Train n t) e =
         let m = order-most (trainOf (soonest s g)) (command s h) (command s g) in

@@ -1,6 +1,6 @@
 -- Histories that show the same trains, clock, arm and command: every list of steps from there on gets the same numbers and commands, and leads to such
 -- histories again; and so for the bench as built. Assumes nothing.
-use Prim.Native.Nat.{ℕ, zero, suc, _+_}
+use Prim.Native.Nat.{ℕ, zero, suc, _+_, _-_}
 use mathlib.Core.Path.{_≡_, refl, sym, _∙_, ap, ap₂}
 use mathlib.Core.Bool.{Bool, true, false, not, _&&_, false≢true}
 use mathlib.Core.List.{List, [], _∷_}
@@ -19,7 +19,7 @@ use Rattle.cabinet.specs.declared.Order.{Order}
 use Rattle.cabinet.specs.declared.Answer.{Answer}
 use Rattle.runs.specs.declared.Step.{Step}
 use Rattle.runs.specs.declared.Step.the-variants.{Approach, Occupy, Leave, Clock}
-use Rattle.runs.specs.History.{History, instant, arm, Place, away, coming, inside, place, isAway, isComing, since, dueAt, latestAt, someTrain, someDue, someLate, lowering, raising, look, command, stepRefusal, keep, after, given, orderAt, history, stepRefusals, orders, kindOf}
+use Rattle.runs.specs.History.{History, instant, arm, Place, away, coming, inside, place, isAway, isComing, since, trainsPresent, dueAt, latestAt, someTrain, someDue, someLate, lowering, raising, look, command, stepRefusal, keep, after, given, orderAt, history, stepRefusals, orders, kindOf}
 use Rattle.runs.specs.Steps.{answersTo, benchStepped, benchAfter, benchAnswers}
 use Rattle.runs.specs.Demand.{answerOf, entryFrom}
 use Rattle.runs.specs.Match.{Valid, Match}
@@ -81,13 +81,21 @@ module _ (s : Settings) where
 
   -- ---- the rest of the list
 
-  module _ {h g : History} (same : SameMoment s h g) where
+  -- all is the same, and as many trains are present
+  pub record Alike (h g : History) : Type 0 where
+    pub moment : SameMoment s h g
+    pub count : trainsPresent h ≡ trainsPresent g
+
+  module _ {h g : History} (alike : Alike h g) where
+    abbrev same : SameMoment s h g
+    same = alike .moment
+
     -- a step gets the same number
     pub number-same : (x : Step) → stepRefusal s h x ≡ stepRefusal s g x
     unfolding stepRefusal
-    number-same (Approach k n) = event-number s (events.Approach k) n h g (same .instant) (same .trains n)
-    number-same (Occupy n) = event-number s events.Occupy n h g (same .instant) (same .trains n)
-    number-same (Leave n) = event-number s events.Leave n h g (same .instant) (same .trains n)
+    number-same (Approach k n) = event-number s (events.Approach k) n h g (same .instant) (same .trains n) (alike .count)
+    number-same (Occupy n) = event-number s events.Occupy n h g (same .instant) (same .trains n) (alike .count)
+    number-same (Leave n) = event-number s events.Leave n h g (same .instant) (same .trains n) (alike .count)
     number-same (Clock r) = rw (late-same h g (same .trains) (same .instant), same .instant, same .command, same .arm)
 
     -- and, accepted, leaves all the same: an event, if it leaves the command so
@@ -124,39 +132,45 @@ module _ (s : Settings) where
       trains = same .trains;
     }
 
+    count-same : (x : Step) → trainsPresent (x ∷ h) ≡ trainsPresent (x ∷ g)
+    count-same (Approach k n) = ap suc (alike .count)
+    count-same (Occupy n) = alike .count
+    count-same (Leave n) = ap (λ (c : ℕ). c - 1) (alike .count)
+    count-same (Clock r) = alike .count
+
     -- accepted or refused
-    pub after-same : (x : Step) → SameMoment s (after s h x) (after s g x)
+    pub after-same : (x : Step) → Alike (after s h x) (after s g x)
     after-same x = rw (number-same x) (go (stepRefusal s g x))
       where
-        go : (k : ℕ) → SameMoment s (keep k x h) (keep k x g)
-        go zero = step-same x
-        go (suc k) = same
+        go : (k : ℕ) → Alike (keep k x h) (keep k x g)
+        go zero = record { moment = step-same x; count = count-same x }
+        go (suc k) = alike
 
     pub order-same : (x : Step) → orderAt s h x ≡ orderAt s g x
     order-same x =
-        let z = after-same x in
+        let z = after-same x .moment in
         let n = soonest-same s (after s h x) (after s g x) (z .trains) in
         λ i. given (trainOf (n i)) (same .command i) (z .command i)
 
   -- ---- lists
 
-  pub history-same : (xs : List Step) {h g : History} → SameMoment s h g → SameMoment s (history s h xs) (history s g xs)
+  pub history-same : (xs : List Step) {h g : History} → Alike h g → Alike (history s h xs) (history s g xs)
   unfolding history
   history-same [] same = same
   history-same (x ∷ xs) same = history-same xs (after-same same x)
 
-  pub numbers-same : (xs : List Step) {h g : History} → SameMoment s h g → stepRefusals s h xs ≡ stepRefusals s g xs
+  pub numbers-same : (xs : List Step) {h g : History} → Alike h g → stepRefusals s h xs ≡ stepRefusals s g xs
   unfolding stepRefusals
   numbers-same [] same = refl
   numbers-same (x ∷ xs) same = ap₂ (λ (k : ℕ) (l : List ℕ). k ∷ l) (number-same same x) (numbers-same xs (after-same same x))
 
-  pub orders-same : (xs : List Step) {h g : History} → SameMoment s h g → orders s h xs ≡ orders s g xs
+  pub orders-same : (xs : List Step) {h g : History} → Alike h g → orders s h xs ≡ orders s g xs
   unfolding orders
   orders-same [] same = refl
   orders-same (x ∷ xs) same = ap₂ (λ (o : Order) (l : List Order). o ∷ l) (order-same same x) (orders-same xs (after-same same x))
 
   -- benches that are as the rules say of such histories answer alike
-  pub answers-same : (xs : List Step) (h g : History) (b c : Bench) → Valid s h → Valid s g → Match s h b → Match s g c → SameMoment s h g →
+  pub answers-same : (xs : List Step) (h g : History) (b c : Bench) → Valid s h → Valid s g → Match s h b → Match s g c → Alike h g →
       benchAnswers b xs ≡ benchAnswers c xs
   unfolding answersTo
   answers-same [] h g b c v w p q same = refl
@@ -178,5 +192,5 @@ module _ (s : Settings) where
         arm = p .angle ∙ same .arm ∙ sym (q .angle);
         previous = p .previous ∙ same .previous ∙ sym (q .previous);
         command = p .order ∙ same .command ∙ sym (q .order);
-        trains = λ n. let t = same .trains n in p .entries n ∙ (λ i. entryFrom (t .0 i) (t .1 i) (t .2 i)) ∙ sym (q .entries n);
+        trains = λ n. let t = same .trains n in p .entries n ∙ (λ i. entryFrom n (t .0 i) (t .1 i) (t .2 i)) ∙ sym (q .entries n);
       }

@@ -1,11 +1,11 @@
 -- Two neighbouring accepted events of one instant about different trains can be swapped, but for a train that comes beside one that goes.
 -- The laws go by what an event does to its train: where no train goes, all who were present stay; where none comes, all who are present were.
 -- So the looks of the two only ever turn the command one way, and one look at the end gives the same. Assumes nothing.
-use Prim.Native.Nat.{ℕ}
+use Prim.Native.Nat.{ℕ, _<_}
 use native.Mathlib.Omega.{arith}
 use native.Mathlib.Decide.{ℕ-discrete}
 use mathlib.Core.Path.{_≡_, refl, sym, _∙_, ap}
-use mathlib.Core.Bool.{false, true≢false}
+use mathlib.Core.Bool.{true, false, true≢false, false≢true}
 use mathlib.Core.List.{List, [], _∷_, _++_, map}
 use mathlib.Core.Logic.{_≢_, _⊎_, inl, inr}
 use lib.ListN.{take}
@@ -22,7 +22,7 @@ use Rattle.cabinet.specs.declared.Order.the-variants.{Nothing, Lower, Raise}
 use Rattle.cabinet.specs.Cabinet.{numberOf, orderOf}
 use Rattle.runs.specs.declared.Step.{Step}
 use Rattle.runs.specs.declared.Step.the-variants.{Occupy}
-use Rattle.runs.specs.History.{History, instant, Place, away, coming, inside, isAway, isComing, soonest, look, command, stepRefusal, after, given, history, stepRefusals, orders}
+use Rattle.runs.specs.History.{History, instant, Place, away, coming, inside, isAway, isComing, trainsPresent, soonest, look, command, stepRefusal, after, given, history, stepRefusals, orders}
 use Rattle.runs.specs.Steps.{benchAfter, benchAnswers}
 use Rattle.runs.specs.Claims.{AllTaken}
 use Rattle.runs.specs.Match.{Valid, Match}
@@ -32,8 +32,8 @@ use Rattle.runs.proofs.Invariants.{valid}
 use Rattle.runs.proofs.Single.{stays-up}
 use Rattle.runs.proofs.Looks.{look-again}
 use Rattle.runs.proofs.Agreement.{unmoved, fresh-match, run-match, run-numbers, run-orders}
-use Rattle.runs.proofs.Events.{event-instant, event-arm, same-then, same-back, event-other, event-alike, event-number, stays, stayed}
-use Rattle.runs.proofs.Same.{look-same, history-same, numbers-same, orders-same, answers-same, bench-same}
+use Rattle.runs.proofs.Events.{counted, event-instant, event-arm, event-count, same-then, same-back, event-other, event-alike, event-taken, event-room, stays, stayed}
+use Rattle.runs.proofs.Same.{Alike, look-same, history-same, numbers-same, orders-same, answers-same, bench-same}
 use Rattle.runs.proofs.Turn.{OneTurn, all-stay, all-stayed}
 
 -- at neither a train goes, or at neither one comes
@@ -50,6 +50,34 @@ one-way coming inside z = inl (refl, refl)
 one-way inside away z = inr (refl, refl)
 one-way inside coming z = inl (refl, refl)
 one-way inside inside z = inl (refl, refl)
+
+-- the number of trains present after two such events does not depend on their order
+counted-swap : (p q : Place) (c : ℕ) → OneWay p q → counted p (counted q c) ≡ counted q (counted p c)
+counted-swap away away c w = refl
+counted-swap away coming c (inl z) = absurd (true≢false (z .0))
+counted-swap away coming c (inr z) = absurd (true≢false (z .1))
+counted-swap away inside c w = refl
+counted-swap coming away c (inl z) = absurd (true≢false (z .1))
+counted-swap coming away c (inr z) = absurd (true≢false (z .0))
+counted-swap coming coming c w = refl
+counted-swap coming inside c w = refl
+counted-swap inside q c w = refl
+
+-- room for both in one order is room for each in the other: for q first, and for p after it
+room-first : (p q : Place) (c : ℕ) → OneWay p q → isComing q ≡ true → counted p c < 96 → c < 96
+room-first away coming c (inl z) e l = absurd (true≢false (z .0))
+room-first away coming c (inr z) e l = absurd (true≢false (z .1))
+room-first coming coming c w e l = omega arith
+room-first inside coming c w e l = l
+room-first p away c w e l = absurd (false≢true e)
+room-first p inside c w e l = absurd (false≢true e)
+
+room-after : (p q : Place) (c : ℕ) → isComing p ≡ true → c < 96 → (isComing q ≡ true → counted p c < 96) → counted q c < 96
+room-after away q c e l k = absurd (false≢true e)
+room-after inside q c e l k = absurd (false≢true e)
+room-after coming away c e l k = omega arith
+room-after coming coming c e l k = k refl
+room-after coming inside c e l k = l
 
 other-way : (p q : Place) → OneWay p q → OneWay q p
 other-way p q (inl z) = inl (z .1, z .0)
@@ -140,12 +168,26 @@ module _ (s : Settings) (g : Fitting s) where
       apart-back : m ≢ n
       apart-back z = apart (sym z)
 
+      -- what one's train coming leaves of room, by how many are present before the two
+      second-room : isComing (placeAfter f) ≡ true → counted (placeAfter e) (trainsPresent h) < 96
+      second-room z = rw (← (event-count e n h)) (event-room s f m one z (taken .1 .0))
+
       -- neither makes a difference to whether the other is accepted
       swapped-taken : AllTaken s h (eventStep f m ∷ eventStep e n ∷ [])
       swapped-taken = (
-        sym (event-number s f m one h (event-instant e n h) (event-other e n h m apart-back)) ∙ taken .1 .0,
-        (event-number s e n first h (event-instant f m h) (event-other f m h n apart) ∙ taken .0, tt),
+        event-taken s f m one h (event-instant e n h) (event-other e n h m apart-back)
+            (λ z. room-first (placeAfter e) (placeAfter f) (trainsPresent h) way z (second-room z)) (taken .1 .0),
+        (
+          event-taken s e n h first (sym (event-instant f m h)) (same-back n first h (event-other f m h n apart))
+              (λ z. rw (event-count f m h) (room-after (placeAfter e) (placeAfter f) (trainsPresent h) z (event-room s e n h z (taken .0)) second-room)) (taken .0),
+          tt,
+        ),
       )
+
+      swapped-count : trainsPresent last ≡ trainsPresent two
+      swapped-count =
+          event-count e n first ∙ ap (counted (placeAfter e)) (event-count f m h) ∙ counted-swap (placeAfter e) (placeAfter f) (trainsPresent h) way
+          ∙ sym (event-count f m one ∙ ap (counted (placeAfter f)) (event-count e n h))
 
       swapped-instant : instant last ≡ instant two
       swapped-instant = event-instant e n first ∙ event-instant f m h ∙ sym (event-instant e n h) ∙ sym (event-instant f m one)
@@ -211,7 +253,7 @@ module _ (s : Settings) (g : Fitting s) (before : List Step) (e f : Event) (n m 
   back : AllTaken s start (y ∷ x ∷ [])
   back = swapped-taken s g start v e f n m way taken apart
 
-  same : (xs : List Step) → SameMoment s (history s [] (before ++ y ∷ x ∷ xs)) (history s [] (before ++ x ∷ y ∷ xs))
+  same : (xs : List Step) → Alike s (history s [] (before ++ y ∷ x ∷ xs)) (history s [] (before ++ x ∷ y ∷ xs))
   same xs =
       rw (
         history-then s g before (y ∷ x ∷ xs) [],
@@ -219,7 +261,7 @@ module _ (s : Settings) (g : Fitting s) (before : List Step) (e f : Event) (n m 
         history-two s g y x xs start back,
         history-two s g x y xs start taken,
       )
-      (history-same s xs (swapped-moment s g start v e f n m way apart taken))
+      (history-same s xs (record { moment = swapped-moment s g start v e f n m way apart taken; count = swapped-count s g start v e f n m way taken apart }))
 
   between : commandsGiven (orders s start (y ∷ x ∷ [])) ≡ commandsGiven (orders s start (x ∷ y ∷ []))
   between =
@@ -231,7 +273,7 @@ module _ (s : Settings) (g : Fitting s) (before : List Step) (e f : Event) (n m 
   rules = record {
     accepted = back;
     between = between;
-    moments = λ i. same (take i rest);
+    moments = λ i. same (take i rest) .moment;
     numbers = numbers-same s rest (same []);
     commands = orders-same s rest (same []);
   }
@@ -260,7 +302,7 @@ module _ (s : Settings) (g : Fitting s) (before : List Step) (e f : Event) (n m 
   built = record {
     accepted = numbered (y ∷ x ∷ []) ∙ none-refused;
     between = ap commandsGiven (ordered (y ∷ x ∷ [])) ∙ between ∙ sym (ap commandsGiven (ordered (x ∷ y ∷ [])));
-    moments = λ i. bench-same s (before ++ y ∷ x ∷ take i rest) (before ++ x ∷ y ∷ take i rest) (same (take i rest));
+    moments = λ i. bench-same s (before ++ y ∷ x ∷ take i rest) (before ++ x ∷ y ∷ take i rest) (same (take i rest) .moment);
     answers =
         answers-same s rest (history s [] there) (history s [] here) (benchAfter (freshBench s) there) (benchAfter (freshBench s) here)
         (valid s there [] tt) (valid s here [] tt) (matched there) (matched here) (same []);

@@ -10,3 +10,4 @@ pub mod Letters
 pub mod Run
 pub mod Swap
 pub mod Soonest
+pub mod Present

@@ -1,5 +1,5 @@
 -- A history of accepted steps, and a bench that is as the rules say of it: its settings, instant, command and arm, the arm before the last
--- clock step, where each train is, since when and of which kind, and what it keeps. Assumes nothing.
+-- clock step, where each train is, since when and of which kind, how many are present, and what it keeps. Assumes nothing.
 use Prim.Native.Nat.{ℕ}
 use mathlib.Core.Path.{_≡_}
 use mathlib.Core.Bool.{Bool, true, cond}
@@ -8,11 +8,11 @@ use Rattle.settings.specs.declared.Kind.{Kind}
 use Rattle.settings.specs.declared.Settings.{Settings}
 use Rattle.trains.specs.declared.Entry.{Entry}
 use Rattle.trains.specs.declared.Table.{Table}
-use Rattle.trains.specs.Table.{entryOf, WellFormed}
+use Rattle.trains.specs.Table.{entryOf, presentIn, WellFormed}
 use Rattle.bench.specs.declared.Bench.{Bench}
 use Rattle.bench.specs.Bench.{nowOf, commandOf, armOf}
 use Rattle.bench.specs.Full.{Kept}
-use Rattle.runs.specs.History.{History, instant, arm, armBefore, Place, away, coming, inside, place, since, kindOf, command, stepRefusal}
+use Rattle.runs.specs.History.{History, instant, arm, armBefore, Place, away, coming, inside, place, since, kindOf, trainsPresent, command, stepRefusal}
 use Rattle.runs.specs.Demand.{entryFrom}
 
 -- every step of the history was accepted after those before it
@@ -27,8 +27,8 @@ placeTold told coming = coming
 placeTold told inside = cond told inside coming
 
 -- so its entry there
-abbrev pub shown : Bool → Place → ℕ → Kind → Entry
-shown told p a k = entryFrom (placeTold told p) a k
+abbrev pub shown : Bool → ℕ → Place → ℕ → Kind → Entry
+shown told n p a k = entryFrom n (placeTold told p) a k
 
 -- settings, an instant and a table are as the rules say; the command stands apart, since a look comes last.
 -- The bench's table is told of occupies, and that of a cabinet alone is not
@@ -36,7 +36,8 @@ pub record Core (told : Bool) (s : Settings) (h : History) (u : Settings) (i : �
   pub settings : u ≡ s
   pub now : i ≡ instant h
   pub formed : WellFormed t
-  pub stands : (n : ℕ) → entryOf t n ≡ shown told (place n h) (since n h) (kindOf n h)
+  pub stands : (n : ℕ) → entryOf t n ≡ shown told n (place n h) (since n h) (kindOf n h)
+  pub present : presentIn t ≡ trainsPresent h
 
 -- the whole bench is as the rules say, and keeps what its settings and its table say
 pub record Match (s : Settings) (h : History) (b : Bench) : Type 0 where

@@ -1,4 +1,4 @@
-// The sample record of document 01, written by the recorder, printed and read back, and texts damaged from it with the reader's verdicts.
+// The sample record of document 01 in 15 columns, written by the recorder, printed and read back, and texts damaged from it with the reader's verdicts.
 use libc::STDOUT_FILENO;
 use recorder::Recorded;
 use runs::Step;
@@ -74,15 +74,15 @@ fn place(line: usize, column: usize) -> usize {
     if column < 1 {
         return 0;
     }
-    if 15 < column {
+    if 16 < column {
         return 0;
     }
-    15 * (line - 1) + (column - 1)
+    16 * (line - 1) + (column - 1)
 }
 
 // The sample with other bytes from a line's column on.
 fn changed(name: &[u8], sample: &[u8], line: usize, column: usize, bytes: &[u8]) {
-    let mut text = [0u8; 375];
+    let mut text = [0u8; 400];
     lines::put_bytes(&mut text, 0, sample);
     lines::put_bytes(&mut text, place(line, column), bytes);
     show(name, &text);
@@ -97,11 +97,11 @@ fn cut(name: &[u8], text: &[u8], n: usize) {
 
 // The sample with bytes after it.
 fn longer(name: &[u8], sample: &[u8], bytes: &[u8]) {
-    let mut text = [0u8; 390];
+    let mut text = [0u8; 416];
     lines::put_bytes(&mut text, 0, sample);
-    lines::put_bytes(&mut text, 375, bytes);
-    if bytes.len() <= 15 {
-        cut(name, &text, 375 + bytes.len());
+    lines::put_bytes(&mut text, 400, bytes);
+    if bytes.len() <= 16 {
+        cut(name, &text, 400 + bytes.len());
     }
 }
 
@@ -115,7 +115,7 @@ fn without(name: &[u8], sample: &[u8], first: usize, next: usize) {
     if sample.len() < to {
         return;
     }
-    let mut text = [0u8; 375];
+    let mut text = [0u8; 400];
     lines::put_bytes(&mut text, 0, sample);
     lines::put_bytes(&mut text, from, &sample[to..]);
     cut(name, &text, sample.len() - (to - from));
@@ -123,23 +123,42 @@ fn without(name: &[u8], sample: &[u8], first: usize, next: usize) {
 
 // Lines out of their columns, and the fixed first line.
 fn column_cases(sample: &[u8]) {
-    changed(b"line 1 with another last letter", sample, 1, 14, b"E");
+    changed(b"line 1 with another last letter", sample, 1, 15, b"E");
     changed(b"leading zero", sample, 2, 7, b"0");
     changed(b"column 9 not blank", sample, 3, 9, b"0");
     changed(b"blank for 0", sample, 6, 8, b" ");
-    changed(b"blank for byte 10", sample, 18, 15, b" ");
+    changed(b"blank for byte 10", sample, 18, 16, b" ");
     changed(
         b"last line among the settings",
         sample,
         5,
         1,
-        b" END OF RECORD",
+        b"  END OF RECORD",
+    );
+}
+
+// Lines of 14 columns among those of 15.
+fn old_form_cases(sample: &[u8]) {
+    changed(
+        b"first line of the old form",
+        sample,
+        1,
+        1,
+        b"   GATE RECORD\n",
+    );
+    changed(b"angle of the old form", sample, 16, 11, b"5760\n");
+    changed(
+        b"last line of the old form",
+        sample,
+        25,
+        1,
+        b" END OF RECORD\n",
     );
 }
 
 // Settings lines, and settings that are refused.
 fn settings_cases(sample: &[u8]) {
-    changed(b"settings index 4 for 3", sample, 4, 14, b"4");
+    changed(b"settings index 4 for 3", sample, 4, 15, b"4");
     changed(b"settings letter T for S", sample, 5, 10, b"T");
     changed(b"settings Y 0", sample, 8, 8, b"0");
     changed(b"settings E 2", sample, 2, 8, b"2");
@@ -149,7 +168,7 @@ fn settings_cases(sample: &[u8]) {
 
 // The times of kinds 2 to 4.
 fn kind_cases(sample: &[u8]) {
-    changed(b"settings index 12 for 13", sample, 14, 14, b"2");
+    changed(b"settings index 12 for 13", sample, 14, 15, b"2");
     changed(b"latest of kind 4 below its earliest", sample, 14, 8, b"2");
     changed(b"earliest of kind 4 not above D", sample, 13, 8, b"2");
     changed(b"latest of kind 4 beyond X", sample, 14, 8, b"5");
@@ -175,29 +194,29 @@ fn recorder_cases(sample: &[u8]) {
     changed(b"A line one instant late", sample, 15, 8, b"1");
     changed(b"T line one instant late", sample, 18, 8, b"3");
     changed(
-        b"A line with a wrong instant and train 97",
+        b"A line with a wrong instant and train 65536",
         sample,
         15,
         8,
-        b"1 A  97",
+        b"1 A65536",
     );
-    changed(b"D line with number 0", sample, 17, 14, b"0");
-    changed(b"D line with train 2", sample, 17, 14, b"2");
-    changed(b"D line with train 11", sample, 17, 13, b"11");
-    changed(b"U line with train 1", sample, 23, 14, b"1");
+    changed(b"D line with number 0", sample, 17, 15, b"0");
+    changed(b"D line with train 2", sample, 17, 15, b"2");
+    changed(b"D line with train 11", sample, 17, 14, b"11");
+    changed(b"U line with train 1", sample, 23, 15, b"1");
     changed(b"U line for the D line", sample, 17, 10, b"U");
-    changed(b"U line that is not due", sample, 20, 10, b"U   0");
+    changed(b"U line that is not due", sample, 20, 10, b"U    0");
     without(b"D line missing", sample, 17, 18);
     without(b"U line missing before the last line", sample, 23, 25);
 }
 
 // Steps of a train that the bench refuses.
 fn train_cases(sample: &[u8]) {
-    changed(b"train 97", sample, 15, 13, b"97");
-    changed(b"train 0", sample, 15, 14, b"0");
+    changed(b"train 65536", sample, 15, 11, b"65536");
+    changed(b"train 0", sample, 15, 15, b"0");
     changed(b"approach of a coming train", sample, 20, 10, b"A");
     changed(b"occupy of a train inside", sample, 22, 10, b"O");
-    changed(b"occupy too early", sample, 19, 1, b"       2 O   1");
+    changed(b"occupy too early", sample, 19, 1, b"       2 O    1");
     changed(b"leave of a coming train", sample, 20, 10, b"L");
 }
 
@@ -208,35 +227,37 @@ fn clock_cases(sample: &[u8]) {
         sample,
         20,
         1,
-        b"       4 T   0\n       5 T   0",
+        b"       4 T    0\n       5 T    0",
     );
-    changed(b"angle 5761", sample, 16, 14, b"1");
-    changed(b"angle 2881 with the command down", sample, 18, 14, b"1");
-    changed(b"angle 5759 with the command up", sample, 24, 11, b"5759");
+    changed(b"angle 5761", sample, 16, 15, b"1");
+    changed(b"angle 15760", sample, 16, 11, b"1");
+    changed(b"angle 2881 with the command down", sample, 18, 15, b"1");
+    changed(b"angle 5759 with the command up", sample, 24, 12, b"5759");
 }
 
 // Missing ends, text after the last line, and two shorter records that are accepted.
 fn end_cases(sample: &[u8]) {
     cut(b"empty text", sample, 0);
-    cut(b"line 1 alone", sample, 15);
-    cut(b"no steps and no last line", sample, 210);
-    cut(b"last line missing", sample, 360);
-    cut(b"last line without byte 10", sample, 374);
+    cut(b"line 1 alone", sample, 16);
+    cut(b"no steps and no last line", sample, 224);
+    cut(b"last line missing", sample, 384);
+    cut(b"last line without byte 10", sample, 399);
     longer(b"byte 10 after the last line", sample, b"\n");
-    longer(b"last line twice", sample, b" END OF RECORD\n");
+    longer(b"last line twice", sample, b"  END OF RECORD\n");
     without(b"no steps", sample, 15, 25);
     without(b"last step left out", sample, 24, 25);
 }
 
 // The sample written, printed and read, and then the texts made from it.
 fn main() {
-    let mut text = [0u8; 375];
+    let mut text = [0u8; 400];
     write_sample(&mut text);
     let sample: &[u8] = &text;
     print(sample);
     show(b"the sample", sample);
     end_cases(sample);
     column_cases(sample);
+    old_form_cases(sample);
     settings_cases(sample);
     kind_cases(sample);
     letter_cases(sample);

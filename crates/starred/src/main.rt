@@ -58,11 +58,11 @@ const LISTS: [Listed; 7] = [
         orders: [0, b'D', 0, 0, 0, 0, 0, 0, 0],
         named: [0, 1, 0, 0, 0, 0, 0, 0, 0],
     },
-    // g: train 0 or 97: 5; train 96 is taken.
+    // g: train 0 or 65,536: 5; train 65,535 is taken.
     Listed {
         steps: 3,
         letters: *b"AAA      ",
-        numbers: [0, 97, 96, 0, 0, 0, 0, 0, 0],
+        numbers: [0, 65536, 65535, 0, 0, 0, 0, 0, 0],
         readings: [0.0, 0.0, 0.0, 0.0, 0.0, 0.0, 0.0, 0.0, 0.0],
         answers: [5, 5, 0, 0, 0, 0, 0, 0, 0],
         orders: [0, 0, 0, 0, 0, 0, 0, 0, 0],

@@ -1,9 +1,9 @@
 -- Which train is first to reach an instant of its own, its due instant or its latest one: what is kept beside the table (document 02, "Eight"), and
 -- by the due instants the train that a lower names (document 02, "Four").
 -- Of equals it is the lowest number. Assumes nothing.
-use Prim.Native.Nat.{ℕ, _+_}
+use Prim.Native.Nat.{ℕ}
 use mathlib.Core.Path.{_≡_}
-use mathlib.Core.Bool.{Bool, true, false, cond, not, _&&_, _||_}
+use mathlib.Core.Bool.{Bool, true, false, cond, _&&_, _||_}
 use mathlib.Core.List.{List, [], _∷_}
 use lib.Dec.{ltb, leb, eqb}
 use Rattle.settings.specs.declared.Settings.{Settings}
@@ -15,8 +15,8 @@ use Rattle.trains.specs.declared.First.the-variants.{Nobody, Train}
 use Rattle.trains.specs.declared.Question.{Question}
 use Rattle.trains.specs.declared.Question.the-variants.{Due, Latest}
 use Rattle.trains.specs.declared.Asked.{Asked}
-use Rattle.trains.specs.Trains.{isPresent, isComing, dueInstant, latestInstant, placeOf}
-use Rattle.trains.specs.Table.{awayEntry, entryOf, put}
+use Rattle.trains.specs.Trains.{isPresent, isComing, dueInstant, latestInstant}
+use Rattle.trains.specs.Table.{placeFor, entryOf}
 
 -- a train with this standing has the instant asked for: a present train its due instant, a coming one its latest instant
 unfoldable pub hasOwn : Question → Standing → Bool
@@ -28,9 +28,9 @@ unfoldable pub instantOf : Settings → Question → Entry → ℕ
 instantOf s Due e = dueInstant s e
 instantOf s Latest e = latestInstant s e
 
--- train n with its own instant
-unfoldable pub ownOf : Settings → Question → ℕ → Entry → First
-ownOf s q n e = cond (hasOwn q (e .standing)) (Train n (instantOf s q e)) Nobody
+-- an entry's train with its own instant
+unfoldable pub ownOf : Settings → Question → Entry → First
+ownOf s q e = cond (hasOwn q (e .standing)) (Train (e .number) (instantOf s q e)) Nobody
 
 -- n at t comes before m at u: sooner, or of equals the lower number
 abbrev pub before : ℕ → ℕ → ℕ → ℕ → Bool
@@ -64,22 +64,22 @@ pub record IsFirst (own : ℕ → First) (f : First) : Type 0 where
   pub least : (n t m u : ℕ) → f ≡ Train n t → own m ≡ Train m u → before n t m u ≡ true
   pub none : f ≡ Nobody → (m : ℕ) → own m ≡ Nobody
 
--- who is first of the trains of a list of entries, whose numbers go on from k
-abbrev pub firstFrom : (ℕ → Entry → First) → ℕ → List Entry → First
-firstFrom own k [] = Nobody
-firstFrom own k (e ∷ es) = earlierOf (own (k + 1) e) (firstFrom own (k + 1) es)
+-- who is first of the trains of a list of entries
+abbrev pub firstOf : (Entry → First) → List Entry → First
+firstOf own [] = Nobody
+firstOf own (e ∷ es) = earlierOf (own e) (firstOf own es)
 
 -- who is first of all trains of the table
 unfoldable pub firstIn : Settings → Question → Table → First
-firstIn s q t = firstFrom (ownOf s q) 0 (t .places)
+firstIn s q t = firstOf (ownOf s q) (t .places)
 
--- the first of train m, where it is another than n and has the instant asked for, and of those before it
-unfoldable pub withOther : Settings → Question → ℕ → ℕ → Entry → First → First
-withOther s q n m e best = cond (hasOwn q (e .standing) && not (eqb m n)) (earlierOf (Train m (instantOf s q e)) best) best
+-- an entry's train with its own instant, where it is another than n
+unfoldable pub ownBut : Settings → Question → ℕ → Entry → First
+ownBut s q n e = cond (eqb (e .number) n) Nobody (ownOf s q e)
 
 -- who is first of all trains but n
 unfoldable pub firstBut : Settings → Question → ℕ → Table → First
-firstBut s q n t = firstIn s q (put t n awayEntry)
+firstBut s q n t = firstOf (ownBut s q n) (t .places)
 
 -- the same where `was` is first of all: the table is read through only where that is train n
 unfoldable pub restOf : Settings → Question → First → ℕ → Table → First
@@ -87,4 +87,4 @@ restOf s q was n t = cond (isNamed n was) (firstBut s q n t) was
 
 -- what the table says of train n
 abbrev pub askedOf : Table → Settings → Question → First → ℕ → Asked
-askedOf t s q was n = record { place = placeOf n; entry = entryOf t n; rest = restOf s q was n t }
+askedOf t s q was n = record { place = placeFor t n; entry = entryOf t n; rest = restOf s q was n t }

@@ -18,19 +18,23 @@ enum-told-3 c = search needs
 
 returns : tie.Need-returns
 unfolding approachRefusal
-returns c = simp (c .enum-told .given .1, c .before .before .if1 .taken, ← (c .before .before .before .is-train .ensures))
+returns c = simp (c .if2 .taken, c .before .enum-told .given .1, c .before .before .before .if1 .taken, ← (c .before .before .before .before .is-train .ensures))
 
 returns-2 : tie.Need-returns-2
 unfolding approachRefusal
-returns-2 c = simp (c .enum-told2 .given .1, c .before .before .if1 .taken, ← (c .before .before .before .is-train .ensures))
+returns-2 c = simp (c .if2 .left, c .before .enum-told .given .1, c .before .before .before .if1 .taken, ← (c .before .before .before .before .is-train .ensures))
 
 returns-3 : tie.Need-returns-3
 unfolding approachRefusal
-returns-3 c = simp (c .enum-told3 .given .1, c .before .before .if1 .taken, ← (c .before .before .before .is-train .ensures))
+returns-3 c = simp (c .enum-told2 .given .1, c .before .before .if1 .taken, ← (c .before .before .before .is-train .ensures))
 
 returns-4 : tie.Need-returns-4
 unfolding approachRefusal
-returns-4 c = simp (c .if1 .left, ← (c .before .is-train .ensures))
+returns-4 c = simp (c .enum-told3 .given .1, c .before .before .if1 .taken, ← (c .before .before .before .is-train .ensures))
+
+returns-5 : tie.Need-returns-5
+unfolding approachRefusal
+returns-5 c = simp (c .if1 .left, ← (c .before .is-train .ensures))
 
 pub approach-refusal-spec : {M : Type 1} → statement M
 approach-refusal-spec =
@@ -43,4 +47,5 @@ approach-refusal-spec =
     returns
     returns-2
     returns-3
-    returns-4)
+    returns-4
+    returns-5)

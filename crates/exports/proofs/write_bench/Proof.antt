@@ -1,24 +1,22 @@
--- `exports::write_bench` meets its contract: `Writing` holds at each train. Assumes nothing.
+-- `exports::write_bench` meets its contract: `Writing` holds at each entry. Assumes nothing.
 use Prim.Native.Nat.{_+_, _-_, _<_}
 use native.Mathlib.Omega.{arith}
-use mathlib.Core.Path.{ap, _∙_}
+use mathlib.Core.Path.{refl, _∙_}
 use mathlib.Core.List.{[]}
 use lib.ListN.{length, length-set}
 use borrow.Author.Needs.{needs}
-use Rattle.trains.specs.declared.Entry.{Entry}
-use Rattle.trains.specs.Trains.{since}
-use Rattle.exports.specs.State.{standingNumber, kindNumber, benchNumbers}
+use Rattle.exports.specs.State.{benchNumbers}
 use Rattle.exports.proofs.State.{four-filled, four-long, Writing, writing-start, writing-room, writing-next, writing-end}
 use Rattle.exports.proofs.write_bench.Statement.{statement}
 use Rattle.exports.proofs.write_bench.Tie as tie
 
 abbrev Inv-loop : tie.InvT-loop
-Inv-loop state₀ table n₀ i₀ state n i = Writing table state₀ state n i
+Inv-loop state₀ table place₀ i₀ state place i = Writing table state₀ state place i
 
 abbrev μ-loop : tie.MeasureT-loop
-μ-loop state₀ table n₀ i₀ state n i = 97 - n
+μ-loop state₀ table place₀ i₀ state place i = 96 - place
 
--- ---- at a train
+-- ---- at an entry
 
 abbrev Turn : Type 0
 Turn = tie.In-loop Inv-loop μ-loop
@@ -26,12 +24,12 @@ Turn = tie.In-loop Inv-loop μ-loop
 abbrev given : Turn → tie.Start Inv-loop μ-loop
 given c = c .before .before .before .before .before .before .before .before .before
 
--- there are three places for it
-room : (c : Turn) → c .before .loop .i + 2 < length (c .before .loop .state)
+-- there are four places for it
+room : (c : Turn) → c .before .loop .i + 3 < length (c .before .loop .state)
 room c =
     let k = c .before .loop in
     let a = given c in
-    writing-room (a .args .b .table) _ (four-long (a .args .state .now) _ _ _ _ (a .pre)) (k .state) (k .n) (k .i) (k .inv) (c .loop-test .taken)
+    writing-room (a .args .b .table) _ (four-long (a .args .state .now) _ _ _ _ (a .pre)) (k .state) (k .place) (k .i) (k .inv) (c .loop-test .taken)
 
 -- ---- the whole
 
@@ -59,11 +57,11 @@ slice-write-state-4 c = rw (length-set, length-set, length-set) (omega (arith, c
 loop-holds : tie.Need-loop-holds Inv-loop μ-loop
 loop-holds c = let a = c .before .before .before .before .before .before .before .args in writing-start (a .b .table) _
 
-entry-of-requires : tie.Need-entry-of-requires Inv-loop μ-loop
-entry-of-requires c κs = search needs
+shown-at-requires : tie.Need-shown-at-requires Inv-loop μ-loop
+shown-at-requires c κs = search needs
 
-standing-number-requires : tie.Need-standing-number-requires Inv-loop μ-loop
-standing-number-requires c κs = search needs
+cast-state-3 : tie.Need-cast-state-3 Inv-loop μ-loop
+cast-state-3 c = search needs
 
 mul-state : tie.Need-mul-state Inv-loop μ-loop
 mul-state c = search needs
@@ -71,8 +69,8 @@ mul-state c = search needs
 slice-write-state-5 : tie.Need-slice-write-state-5 Inv-loop μ-loop
 slice-write-state-5 c = omega (arith, room (c .before .before))
 
-since-of-requires : tie.Need-since-of-requires Inv-loop μ-loop
-since-of-requires c κs = search needs
+kind-number-requires : tie.Need-kind-number-requires Inv-loop μ-loop
+kind-number-requires c κs = search needs
 
 add-state : tie.Need-add-state Inv-loop μ-loop
 add-state c = search needs
@@ -83,8 +81,8 @@ mul-state-2 c = search needs
 slice-write-state-6 : tie.Need-slice-write-state-6 Inv-loop μ-loop
 slice-write-state-6 c = rw length-set (omega (arith, room (c .before .before .before)))
 
-kind-number-requires : tie.Need-kind-number-requires Inv-loop μ-loop
-kind-number-requires c κs = search needs
+standing-number-requires : tie.Need-standing-number-requires Inv-loop μ-loop
+standing-number-requires c κs = search needs
 
 add-state-2 : tie.Need-add-state-2 Inv-loop μ-loop
 add-state-2 c = search needs
@@ -93,10 +91,22 @@ mul-state-3 : tie.Need-mul-state-3 Inv-loop μ-loop
 mul-state-3 c = search needs
 
 slice-write-state-7 : tie.Need-slice-write-state-7 Inv-loop μ-loop
-slice-write-state-7 c = rw (length-set, length-set) (room (c .before .before .before .before))
+slice-write-state-7 c = rw (length-set, length-set) (omega (arith, room (c .before .before .before .before)))
 
-add-n : tie.Need-add-n Inv-loop μ-loop
-add-n c = search needs
+since-of-requires : tie.Need-since-of-requires Inv-loop μ-loop
+since-of-requires c κs = search needs
+
+add-state-3 : tie.Need-add-state-3 Inv-loop μ-loop
+add-state-3 c = search needs
+
+mul-state-4 : tie.Need-mul-state-4 Inv-loop μ-loop
+mul-state-4 c = search needs
+
+slice-write-state-8 : tie.Need-slice-write-state-8 Inv-loop μ-loop
+slice-write-state-8 c = rw (length-set, length-set, length-set) (room (c .before .before .before .before .before))
+
+add-place : tie.Need-add-place Inv-loop μ-loop
+add-place c = search needs
 
 add-i : tie.Need-add-i Inv-loop μ-loop
 add-i c = search needs
@@ -106,14 +116,12 @@ loop-less c = search needs
 
 loop-again : tie.Need-loop-again Inv-loop μ-loop
 loop-again c =
-    let at-entry-of = c .before .before .before in
-    let t = at-entry-of .before in
+    let at-shown-at = c .before .before .before .before in
+    let t = at-shown-at .before in
     let a = given t in
     let k = t .before .loop in
-    let e = at-entry-of .entry-of .ensures in
-    writing-next (a .args .b .table) _ (four-long (a .args .state .now) _ _ _ _ (a .pre)) (k .state) (k .n) (k .i) (k .inv)
-    (t .loop-test .taken) _ _ _ (c .before .before .standing-number .ensures ∙ ap (λ (x : Entry). standingNumber (x .standing)) e)
-    (c .before .since-of .ensures ∙ ap (λ (x : Entry). since (x .standing)) e) (c .kind-number .ensures ∙ ap kindNumber e)
+    writing-next (a .args .b .table) _ (four-long (a .args .state .now) _ _ _ _ (a .pre)) (k .state) (k .place) (k .i) (k .inv)
+    (t .loop-test .taken) _ _ _ _ _ (at-shown-at .shown-at .ensures) refl (c .before .before .kind-number .ensures) (c .before .standing-number .ensures) (c .since-of .ensures)
 
 same-length : tie.Need-same-length Inv-loop μ-loop
 same-length c =
@@ -127,7 +135,7 @@ returns c =
     let k = c .before .loop in
     let a = c .before .before .before .before .before .before .before .before .before in
     rw (← (c .before .before .command-number .ensures))
-    (writing-end (a .args .b .table) _ (four-long (a .args .state .now) _ _ _ _ (a .pre)) (k .state) (k .n) (k .i) (k .inv) (omega (arith, c .loop-test .left)) (a .args .state .now) _
+    (writing-end (a .args .b .table) _ (four-long (a .args .state .now) _ _ _ _ (a .pre)) (k .state) (k .place) (k .i) (k .inv) (c .loop-test .left) (a .args .state .now) _
     (four-filled (a .args .state .now) _ _ _ _ _ (omega (arith, a .pre))))
 
 pub write-bench-spec : {M : Type 1} → statement M
@@ -144,19 +152,23 @@ write-bench-spec =
     command-number-requires
     slice-write-state-4
     loop-holds
-    entry-of-requires
-    standing-number-requires
+    shown-at-requires
+    cast-state-3
     mul-state
     slice-write-state-5
-    since-of-requires
+    kind-number-requires
     add-state
     mul-state-2
     slice-write-state-6
-    kind-number-requires
+    standing-number-requires
     add-state-2
     mul-state-3
     slice-write-state-7
-    add-n
+    since-of-requires
+    add-state-3
+    mul-state-4
+    slice-write-state-8
+    add-place
     add-i
     loop-less
     loop-again

@@ -1,12 +1,22 @@
 -- `bench::Head::approach` meets its contract. Assumes nothing.
-use Rattle.bench.specs.Bench.{headApproached}
+use mathlib.Core.Path.{sym, _∙_}
+use native.Mathlib.Omega.{arith}
 use Rattle.settings.proofs.Laws.{unless-refused}
+use Rattle.trains.proofs.Laws.{train-says}
+use Rattle.cabinet.proofs.Laws.{approach-says}
+use Rattle.bench.specs.Bench.{headApproached}
 use borrow.Author.Needs.{needs}
 use Rattle.bench.proofs.Head.approach.Statement.{statement}
 use Rattle.bench.proofs.Head.approach.Tie as tie
 
 approach-refusal-requires : tie.Need-approach-refusal-requires
 approach-refusal-requires c κs = search needs
+
+cast-coming : tie.Need-cast-coming
+cast-coming c =
+    let a = c .before .before .args in
+    let says = train-says (a .n) (approach-says (a .n) (a .entry .standing) (a .full) (sym (c .before .approach-refusal .ensures) ∙ c .if1 .taken) .0) in
+    omega arith
 
 coming-requires : tie.Need-coming-requires
 coming-requires c κs = search needs
@@ -57,6 +67,7 @@ approach-spec =
     tie.close
     (tie.spec
     approach-refusal-requires
+    cast-coming
     coming-requires
     own-requires
     earlier-requires

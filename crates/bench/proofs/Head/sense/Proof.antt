@@ -22,7 +22,7 @@ leave-requires : tie.Need-leave-requires
 leave-requires c κs = search needs
 
 returns : tie.Need-returns
-returns c = simp (← (c .approach .ensures), c .before .before .c .given .1)
+returns c = simp (← (c .approach .ensures), c .before .before .before .c .given .1)
 
 returns-2 : tie.Need-returns-2
 returns-2 c = simp (← (c .occupy .ensures), c .before .enum-told .given .1)

@@ -4,15 +4,14 @@ use Prim.Native.Nat.{ℕ, _≤_, _+_, _-_, _%_}
 use native.Mathlib.Omega.{arith}
 use borrow.Author.Needs.{needs}
 use lib.ListN.{length, drop}
-use Rattle.trains.specs.Table.{awayEntry, put, WellFormed}
-use Rattle.trains.specs.First.{ownOf, firstFrom, firstIn, firstBut}
+use Rattle.trains.specs.First.{ownBut, firstOf, firstBut}
 use Rattle.trains.proofs.Lists.{length-mapped}
-use Rattle.trains.proofs.Firsts.{but-end, but-four, but-away}
+use Rattle.trains.proofs.Firsts.{first-end, first-four, four-free}
 use Rattle.trains.proofs.Table.first_but.Statement.{statement}
 use Rattle.trains.proofs.Table.first_but.Tie as tie
 
 abbrev Inv-loop : tie.InvT-loop
-Inv-loop s q n self best₀ i₀ best i = (i ≤ 96) × (i % 4 ≡ 0) × WellFormed self × (best ≡ firstFrom (ownOf s q) i (drop i (put self n awayEntry .places)))
+Inv-loop s q n self best₀ i₀ best i = (i ≤ 96) × (i % 4 ≡ 0) × (length (self .places) ≡ 96) × (best ≡ firstOf (ownBut s q n) (drop i (self .places)))
 
 abbrev μ-loop : tie.MeasureT-loop
 μ-loop s q n self best₀ i₀ best i = i
@@ -21,7 +20,7 @@ loop-holds : tie.Need-loop-holds Inv-loop μ-loop
 loop-holds c =
     let a = c .args in
     let h : length (a .t1 .places) ≡ 96 = search (needs, length-mapped) in
-    (omega arith, refl, h, sym (but-end (a .s) (a .q) (a .t1) (a .n) h))
+    (omega arith, refl, h, sym (first-end (ownBut (a .s) (a .q) (a .n)) (a .t1 .places) 96 h))
 
 sub-i : tie.Need-sub-i Inv-loop μ-loop
 sub-i c = search needs
@@ -71,29 +70,14 @@ is-present-requires-3 c κs = search needs
 is-present-requires-4 : tie.Need-is-present-requires-4 Inv-loop μ-loop
 is-present-requires-4 c κs = search needs
 
-cast-m : tie.Need-cast-m Inv-loop μ-loop
-cast-m c = search needs
-
-add-with-other : tie.Need-add-with-other Inv-loop μ-loop
-add-with-other c = search needs
-
 with-other-requires : tie.Need-with-other-requires Inv-loop μ-loop
 with-other-requires c κs = search needs
-
-add-with-other-2 : tie.Need-add-with-other-2 Inv-loop μ-loop
-add-with-other-2 c = search needs
 
 with-other-requires-2 : tie.Need-with-other-requires-2 Inv-loop μ-loop
 with-other-requires-2 c κs = search needs
 
-add-with-other-3 : tie.Need-add-with-other-3 Inv-loop μ-loop
-add-with-other-3 c = search needs
-
 with-other-requires-3 : tie.Need-with-other-requires-3 Inv-loop μ-loop
 with-other-requires-3 c κs = search needs
-
-add-with-other-4 : tie.Need-add-with-other-4 Inv-loop μ-loop
-add-with-other-4 c = search needs
 
 with-other-requires-4 : tie.Need-with-other-requires-4 Inv-loop μ-loop
 with-other-requires-4 c κs = search needs
@@ -113,8 +97,8 @@ loop-again c =
       omega (arith, z, inv .1),
       inv .2,
       rw (c .with-other4 .ensures, c .before .with-other3 .ensures, c .before .before .with-other2 .ensures, c .before .before .before .with-other .ensures)
-          (but-four (a .s) (a .q) (a .t1) (a .n) (inv .2) i (omega (arith, z, inv .0)) _ _ _ _ refl refl refl refl (k .loop .best)
-          (inv .3 ∙ ap (λ (m : ℕ). firstFrom (ownOf (a .s) (a .q)) m (drop m (put (a .t1) (a .n) awayEntry .places))) (sym z))),
+          (first-four (ownBut (a .s) (a .q) (a .n)) (a .t1 .places) i (omega (arith, z, inv .0, inv .2)) (k .loop .best)
+          (inv .3 ∙ ap (λ (m : ℕ). firstOf (ownBut (a .s) (a .q) (a .n)) (drop m (a .t1 .places))) (sym z))),
     )
 
 loop-less-2 : tie.Need-loop-less-2 Inv-loop μ-loop
@@ -130,18 +114,19 @@ loop-again-2 c =
       omega arith,
       omega arith,
       inv .2,
-      but-away (a .s) (a .q) (a .t1) (a .n) (inv .2) i (omega arith) _ _ _ _ refl refl refl refl (k .loop .best)
-          (inv .3 ∙ ap (λ (m : ℕ). firstFrom (ownOf (a .s) (a .q)) m (drop m (put (a .t1) (a .n) awayEntry .places))) (sym z))
+      four-free (a .s) (a .q) (a .n) _ _ _ _ (k .loop .best)
           (rw (← (c .before .before .before .before .is-present .ensures), ← (c .before .before .before .is-present2 .ensures), ← (c .before .before .is-present3 .ensures), ← (c .before .is-present4 .ensures))
-          (c .if1 .left)),
+          (c .if1 .left))
+          ∙ first-four (ownBut (a .s) (a .q) (a .n)) (a .t1 .places) i (omega arith) (k .loop .best)
+          (inv .3 ∙ ap (λ (m : ℕ). firstOf (ownBut (a .s) (a .q) (a .n)) (drop m (a .t1 .places))) (sym z)),
     )
 
 returns : tie.Need-returns Inv-loop μ-loop
-unfolding firstIn firstBut
+unfolding firstBut
 returns c =
     let a = c .before .before .args in
     let z : c .before .loop .i ≡ 0 = omega arith in
-    c .before .loop .inv .3 ∙ ap (λ (m : ℕ). firstFrom (ownOf (a .s) (a .q)) m (drop m (put (a .t1) (a .n) awayEntry .places))) z
+    c .before .loop .inv .3 ∙ ap (λ (m : ℕ). firstOf (ownBut (a .s) (a .q) (a .n)) (drop m (a .t1 .places))) z
 
 pub first-but-spec : {M : Type 1} → statement M
 first-but-spec =
@@ -166,14 +151,9 @@ first-but-spec =
     is-present-requires-2
     is-present-requires-3
     is-present-requires-4
-    cast-m
-    add-with-other
     with-other-requires
-    add-with-other-2
     with-other-requires-2
-    add-with-other-3
     with-other-requires-3
-    add-with-other-4
     with-other-requires-4
     loop-less
     loop-again
