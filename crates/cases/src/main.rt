@@ -488,14 +488,27 @@ fn named_of_two() {
 
 // ---- 96 trains
 
-// Trains 65,535 down to 65,440 approach at 0.
-fn crowd() -> Bench {
-    let mut b = fresh();
+// 65,535 down to 65,440.
+fn numbers() -> [u32; 96] {
+    let mut numbers = [0u32; 96];
     for i in 0..96 {
-        let m = b.approach(Kind::Loaded, 65535 - i);
-        b = m.bench;
+        numbers[i] = 65535 - (i as u32);
     }
-    b
+    numbers
+}
+
+// These trains approach at 0.
+fn crowd() -> Bench {
+    let r = runs::run(
+        worked::settings_k(),
+        &[b'A'; 96],
+        &numbers(),
+        &[0.0f32; 96],
+        &mut [0u8; 96],
+        &mut [0u8; 96],
+        &mut [0u32; 96],
+    );
+    r.bench
 }
 
 // One more, a present one again, and no train's number; then the arm falls, one goes inside and leaves, and its entry serves a new number.
@@ -523,12 +536,15 @@ fn full() {
 
 // A cabinet alone that hears the same 96.
 fn crowd_alone() -> Cabinet {
-    let mut c = cabinet::start(worked::settings_k()).cabinet;
-    for i in 0..96 {
-        let s = c.approach(Kind::Loaded, 65535 - i);
-        c = s.cabinet;
-    }
-    c
+    let r = alone::run(
+        worked::settings_k(),
+        &[b'A'; 96],
+        &numbers(),
+        &mut [0u8; 96],
+        &mut [0u8; 96],
+        &mut [0u32; 96],
+    );
+    r.cabinet
 }
 
 fn full_alone() {
