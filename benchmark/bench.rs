@@ -3,14 +3,14 @@
 //
 //   bench                  all three sides answer alike on every input, or it fails; then the times
 //   bench once SIDE INPUT  a round of one side (ours, full, kept, or none: the input is only made) on one input (1, 8, 96, write,
-//                          read, report, small), for callgrind
+//                          read, report, small, forward, back), for callgrind
 //   bench units INPUT      how many steps, lines or records a round on an input has
 
 mod inplace;
 mod kept;
 
-use inplace::{Bench, Entry, FullLooks, Looks, Order, Settings, Standing};
-use inplace::{FIRST_LINE, FULL, HEAD, LAST_LINE, LAST_TRAIN, LINE, LONGEST, ROW};
+use inplace::{Bench, Entry, Form, FullLooks, Looks, New, Old, Order, Settings, Standing};
+use inplace::{FULL, HEAD, LAST_TRAIN, LINE, LONGEST, ROW};
 use kept::Kept;
 use std::hint::black_box;
 use std::time::Instant;
@@ -52,6 +52,8 @@ extern "C" {
     ) -> u64;
     fn weqhaso_read(text: *const u8, len: usize) -> u64;
     fn weqhaso_report(text: *const u8, len: usize, out: *mut u8, out_len: usize) -> u64;
+    fn weqhaso_to_new(text: *const u8, len: usize, out: *mut u8, out_len: usize) -> u64;
+    fn weqhaso_to_old(text: *const u8, len: usize, out: *mut u8, out_len: usize) -> u64;
 }
 
 const STEPS: usize = 100_000;
@@ -99,11 +101,12 @@ fn any_number(r: &mut Random) -> u32 {
 }
 
 // The kinds of train that approach: kind 1, whose times the others have too (what is measured), or all four by chance, with
-// times of their own.
+// times of their own; or kind 1 with the numbers of document 01, 1 to 96.
 #[derive(Clone, Copy)]
 enum Kinds {
     One,
     Four,
+    Old,
 }
 
 // A yard in which the number of trains present stays: a train that leaves makes room for the next number's approach at once.
@@ -125,7 +128,7 @@ impl Yard {
         let e = earliest;
         let first = (e, e * 3 / 2);
         let times = match kinds {
-            Kinds::One => [first; 4],
+            Kinds::One | Kinds::Old => [first; 4],
             // one that overtakes it, a slow one, and one that is known to the tick
             Kinds::Four => [first, (e * 3 / 4, e), (2 * e, 3 * e), (e + 1, e + 1)],
         };
@@ -158,6 +161,7 @@ impl Yard {
         loop {
             self.next = match self.kinds {
                 Kinds::One => self.next % (96 * APART) + APART,
+                Kinds::Old => self.next % 96 + 1,
                 Kinds::Four => 1 + self.random.below(LAST_TRAIN as u64) as u32,
             };
             if self.present_trains().all(|e| e.number as u32 != self.next) {
@@ -168,7 +172,7 @@ impl Yard {
 
     fn approach_letter(&mut self) -> u8 {
         match self.kinds {
-            Kinds::One => b'A',
+            Kinds::One | Kinds::Old => b'A',
             Kinds::Four => APPROACHES[self.random.below(4) as usize],
         }
     }
@@ -436,31 +440,37 @@ impl List {
     }
 }
 
-fn put_line(text: &mut Vec<u8>, first: u32, letter: u8, last: u32) {
-    text.extend_from_slice(format!("{first:>8} {}{last:>5}\n", letter as char).as_bytes());
+// A number in the last columns of a line.
+fn last_columns<F: Form>(n: u32) -> String {
+    format!("{n:>width$}", width = F::LINE - 11)
+}
+
+fn put_line<F: Form>(text: &mut Vec<u8>, first: u32, letter: u8, last: u32) {
+    let last = last_columns::<F>(last);
+    text.extend_from_slice(format!("{first:>8} {}{last}\n", letter as char).as_bytes());
 }
 
 // A record that fills what the report takes, as far as whole lines go: two trains present, with short stretches.
-fn record(kinds: Kinds) -> Vec<u8> {
+fn record<F: Form>(kinds: Kinds) -> Vec<u8> {
     let mut yard = Yard::new(2, 4, 2880, kinds, 0x9e37_79b9_7f4a_7c15);
-    let mut text = FIRST_LINE.to_vec();
-    for (i, value) in yard.settings.iter().enumerate() {
-        put_line(&mut text, *value, b'S', i as u32 + 1);
+    let mut text = F::FIRST_LINE.to_vec();
+    for (i, value) in yard.settings[..F::SETTINGS].iter().enumerate() {
+        put_line::<F>(&mut text, *value, b'S', i as u32 + 1);
     }
     loop {
         let (letter, number, order) = yard.step();
         let mut lines = Vec::new();
-        put_line(&mut lines, yard.bench.now, letter, number);
+        put_line::<F>(&mut lines, yard.bench.now, letter, number);
         if order.letter() != 0 {
-            put_line(&mut lines, yard.bench.now, order.letter(), order.train());
+            put_line::<F>(&mut lines, yard.bench.now, order.letter(), F::on_lower(order.train()));
         }
-        if text.len() + lines.len() + LINE > LONGEST {
+        if text.len() + lines.len() + F::LINE > LONGEST {
             break;
         }
         text.extend(lines);
     }
-    text.extend_from_slice(LAST_LINE);
-    assert_eq!(text.len(), LONGEST / LINE * LINE, "the last step has a command without space");
+    text.extend_from_slice(F::LAST_LINE);
+    assert_eq!(text.len(), LONGEST / F::LINE * F::LINE, "the last step has a command without space");
     text
 }
 
@@ -482,6 +492,44 @@ fn report(side: Side, text: &[u8], out: &mut [u8]) -> u64 {
     }
 }
 
+// The record in the other form, as the library packs its answer: the one that stands, or document 01's.
+type Turn = fn(Side, &[u8], &mut [u8]) -> u64;
+
+fn to_new(side: Side, text: &[u8], out: &mut [u8]) -> u64 {
+    match side {
+        Side::Ours => unsafe { weqhaso_to_new(text.as_ptr(), text.len(), out.as_mut_ptr(), out.len()) },
+        Side::Full => inplace::to_new::<FullLooks>(text, out),
+        Side::Kept => inplace::to_new::<Kept>(text, out),
+    }
+}
+
+fn to_old(side: Side, text: &[u8], out: &mut [u8]) -> u64 {
+    match side {
+        Side::Ours => unsafe { weqhaso_to_old(text.as_ptr(), text.len(), out.as_mut_ptr(), out.len()) },
+        Side::Full => inplace::to_old::<FullLooks>(text, out),
+        Side::Kept => inplace::to_old::<Kept>(text, out),
+    }
+}
+
+// The form that stands of an old record.
+fn turned(old: &[u8]) -> Vec<u8> {
+    let mut out = vec![0; 2 * old.len()];
+    let answer = to_new(Side::Full, old, &mut out);
+    assert_eq!(answer % 256, 0, "an old record is refused");
+    out.truncate(answer as usize / 256);
+    out
+}
+
+// What all sides answer to a text that is turned, with so long a buffer and the same bytes left in it.
+fn turned_alike(turn: Turn, text: &[u8], len: usize) -> u64 {
+    let [ours, full, kept] = SIDES.map(|side| {
+        let mut out = vec![99; len];
+        (turn(side, text, &mut out), out)
+    });
+    assert!(ours == full && ours == kept, "turned otherwise: {}", String::from_utf8_lossy(text));
+    ours.0
+}
+
 // Whether all sides give one verdict on a text and report it alike, with so long a buffer, and leave the same bytes in it.
 fn same_report(text: &[u8], len: usize) -> bool {
     let [ours, full, kept] = SIDES.map(|side| {
@@ -491,17 +539,17 @@ fn same_report(text: &[u8], len: usize) -> bool {
     ours == full && ours == kept
 }
 
-fn damage(text: &mut Vec<u8>, r: &mut Random) {
+fn damage<F: Form>(text: &mut Vec<u8>, r: &mut Random) {
     let at = r.below(text.len() as u64) as usize;
-    let line = at / LINE * LINE;
+    let line = at / F::LINE * F::LINE;
     match r.below(8) {
         0 => text[at] = b"0123456789 ABEFOLTDUS\n"[r.below(22) as usize],
         1 => text[at] = r.below(256) as u8,
         2 => text.truncate(at),
-        3 => drop(text.drain(line..line + LINE)),
+        3 => drop(text.drain(line..line + F::LINE)),
         // an approach, from this line on, of another kind
         4 => {
-            let mut letters = text.iter_mut().skip(line.max(HEAD) + 9).step_by(LINE);
+            let mut letters = text.iter_mut().skip(line.max(F::HEAD) + 9).step_by(F::LINE);
             if let Some(letter) = letters.find(|l| APPROACHES.contains(l)) {
                 *letter = APPROACHES[r.below(4) as usize];
             }
@@ -510,13 +558,24 @@ fn damage(text: &mut Vec<u8>, r: &mut Random) {
         5 => text[line + 9] = b'A' + r.below(26) as u8,
         // a command, from this line on, with any train or 0
         6 => {
-            let mut lines = text.chunks_exact_mut(LINE).skip(line.max(HEAD) / LINE);
+            let mut lines = text.chunks_exact_mut(F::LINE).skip(line.max(F::HEAD) / F::LINE);
             if let Some(command) = lines.find(|l| matches!(l[9], b'D' | b'U')) {
-                command[10..15].copy_from_slice(format!("{:>5}", any_number(r).min(99_999)).as_bytes());
+                let most = 10_u32.pow(F::LINE as u32 - 11) - 1;
+                let number = last_columns::<F>(any_number(r).min(most));
+                command[10..F::LINE - 1].copy_from_slice(number.as_bytes());
             }
         }
         _ => text.push(10),
     }
+}
+
+// The first lines of a record, some steps among them, and the last one, damaged: most damage early, where it is cheap to reach.
+fn damaged<F: Form>(text: &[u8], r: &mut Random) -> Vec<u8> {
+    let lines = F::SETTINGS + 2 + r.below(60) as usize;
+    let mut damaged = text[..(F::LINE * lines).min(text.len() - F::LINE)].to_vec();
+    damaged.extend_from_slice(F::LAST_LINE);
+    damage::<F>(&mut damaged, r);
+    damaged
 }
 
 // The whole record, buffers that are just long enough and one byte short, damaged records, and too long a text.
@@ -528,11 +587,7 @@ fn check_same_reports(text: &[u8]) {
     }
     let mut r = Random(0x1234_5678_9abc_def1);
     for _ in 0..DAMAGED {
-        // most damage early, where it is cheap to reach
-        let lines = 15 + r.below(60) as usize;
-        let mut damaged = text[..(LINE * lines).min(text.len() - LINE)].to_vec();
-        damaged.extend_from_slice(LAST_LINE);
-        damage(&mut damaged, &mut r);
+        let damaged = damaged::<New>(text, &mut r);
         let len = [19, 18, LONGEST][r.below(3) as usize];
         assert!(same_report(&damaged, len), "{}", String::from_utf8_lossy(&damaged));
     }
@@ -541,11 +596,27 @@ fn check_same_reports(text: &[u8]) {
     assert!(same_report(&long, 19), "reports of too long a text differ");
 }
 
-// Lists of trains of four kinds, plain and damaged, run and recorded, and the records read, plain and damaged: how often each
-// number was answered. In some there are as many trains as the table has entries.
-fn check_same_lists() -> [usize; 18] {
+// The whole record turned, into buffers that are just long enough, one byte short, longer and empty, and damaged ones. They are met
+// by these numbers among others.
+fn check_same_turned<F: Form>(turn: Turn, text: &[u8], numbers: &[usize]) {
+    let bytes = (turned_alike(turn, text, 2 * text.len()) / 256) as usize;
+    let met_whole = [bytes, bytes + 1, bytes - 1, 0].map(|len| turned_alike(turn, text, len) % 256);
+    assert_eq!(met_whole, [0, 0, 14, 14], "a record in buffers about its length");
+    let mut met = [0; 19];
+    let mut r = Random(0x1234_5678_9abc_def1);
+    for _ in 0..DAMAGED {
+        let damaged = damaged::<F>(text, &mut r);
+        let len = [0, damaged.len(), 2 * LONGEST][r.below(3) as usize];
+        met[turned_alike(turn, &damaged, len) as usize % 256] += 1;
+    }
+    assert!(numbers.iter().all(|number| met[*number] > 0), "a number is never answered: {met:?}");
+}
+
+// Lists of trains of four kinds, plain and damaged, run and recorded, and the records read and turned back, plain and damaged: how
+// often each number was answered. In some there are as many trains as the table has entries.
+fn check_same_lists() -> [usize; 19] {
     let mut r = Random(0x0fed_cba9_8765_4321);
-    let mut met = [0; 18];
+    let mut met = [0; 19];
     let mut equals = 0;
     for _ in 0..DAMAGED {
         let full = r.below(16) == 0;
@@ -566,10 +637,11 @@ fn check_same_lists() -> [usize; 18] {
         let mut text = out[..recorded as usize / 256].to_vec();
         assert!(same_report(&text, LONGEST), "{}", String::from_utf8_lossy(&text));
         if !text.is_empty() {
-            damage(&mut text, &mut r);
+            damage::<New>(&mut text, &mut r);
             assert!(same_report(&text, LONGEST), "{}", String::from_utf8_lossy(&text));
         }
         met[read(Side::Ours, &text) as usize % 256] += 1;
+        met[turned_alike(to_old, &text, text.len()) as usize % 256] += 1;
     }
     assert!(equals > 0, "no lower of the lowest of equals, which is not the first of them");
     met
@@ -582,14 +654,14 @@ fn check_same_kinds() {
         list.check_same();
         list.check_same_recorded(&mut vec![0; LINE * (15 + 2 * STEPS)]);
     }
-    check_same_reports(&record(Kinds::Four));
+    check_same_reports(&record::<New>(Kinds::Four));
     let met = check_same_lists();
     // only the end of the clock is too far
-    assert!((0..18).all(|number| number == 10 || met[number] > 0), "a number is never answered: {met:?}");
+    assert!((0..19).all(|number| number == 10 || met[number] > 0), "a number is never answered: {met:?}");
     assert!(met[17] >= 100, "too few approaches to a full table: {met:?}");
 }
 
-// A record, the place for its report, and how many times it goes through in a round.
+// A record, the place for what is made of it, and how many times it goes through in a round.
 struct Text {
     bytes: Vec<u8>,
     out: Vec<u8>,
@@ -598,7 +670,7 @@ struct Text {
 
 impl Text {
     fn new(bytes: Vec<u8>, times: usize) -> Text {
-        let out = vec![0; LONGEST];
+        let out = vec![0; 2 * LONGEST];
         Text { bytes, out, times }
     }
 
@@ -614,6 +686,17 @@ impl Text {
         }
     }
 
+    fn turn(&mut self, side: Side, turn: Turn) {
+        for _ in 0..self.times {
+            black_box(turn(side, black_box(&self.bytes), &mut self.out));
+        }
+    }
+
+    fn says_turned(&mut self, turn: Turn) -> String {
+        let bytes = turn(Side::Ours, &self.bytes, &mut self.out) / 256;
+        format!("{} bytes, {bytes} in the other form", self.bytes.len())
+    }
+
     fn says(&mut self) -> String {
         let rows = report(Side::Ours, &self.bytes, &mut self.out) / 256 / ROW as u64;
         format!("{} bytes, a report of {rows} lines", self.bytes.len())
@@ -626,17 +709,21 @@ enum Input {
     Write(List, Vec<u8>),
     Read(Text),
     Report(Text),
+    Forward(Text),
+    Back(Text),
 }
 
 impl Input {
     fn named(name: &str) -> Input {
         match name {
             "write" => Input::Write(List::new(8, Kinds::One), vec![0; LINE * (15 + 2 * STEPS)]),
-            "read" => Input::Read(Text::new(record(Kinds::One), RECORDS_A_ROUND)),
-            "report" => Input::Report(Text::new(record(Kinds::One), RECORDS_A_ROUND)),
+            "read" => Input::Read(Text::new(record::<New>(Kinds::One), RECORDS_A_ROUND)),
+            "report" => Input::Report(Text::new(record::<New>(Kinds::One), RECORDS_A_ROUND)),
+            "forward" => Input::Forward(Text::new(record::<Old>(Kinds::Old), RECORDS_A_ROUND)),
+            "back" => Input::Back(Text::new(turned(&record::<Old>(Kinds::Old)), RECORDS_A_ROUND)),
             "small" => Input::Report(Text::new(SMALL.to_vec(), SMALL_A_ROUND)),
             many => {
-                let many = many.parse().expect("1, 8, 96, write, read, report or small");
+                let many = many.parse().expect("1, 8, 96, write, read, report, small, forward or back");
                 Input::Steps(List::new(many, Kinds::One))
             }
         }
@@ -647,6 +734,8 @@ impl Input {
             Input::Steps(list) => list.check_same(),
             Input::Write(list, out) => list.check_same_recorded(out),
             Input::Read(text) | Input::Report(text) => check_same_reports(&text.bytes),
+            Input::Forward(text) => check_same_turned::<Old>(to_new, &text.bytes, &[0, 1, 5, 14, 15, 16]),
+            Input::Back(text) => check_same_turned::<New>(to_old, &text.bytes, &[0, 1, 14, 15, 16, 18]),
         }
     }
 
@@ -655,6 +744,8 @@ impl Input {
             Input::Steps(list) => list.says(),
             Input::Write(..) => format!("{STEPS} steps, {} lines", self.units()),
             Input::Read(text) | Input::Report(text) => text.says(),
+            Input::Forward(text) => text.says_turned(to_new),
+            Input::Back(text) => text.says_turned(to_old),
         }
     }
 
@@ -663,7 +754,7 @@ impl Input {
         match self {
             Input::Steps(_) => STEPS,
             Input::Write(list, out) => list.record(Side::Full, out) as usize / 256 / LINE,
-            Input::Read(text) | Input::Report(text) => text.times,
+            Input::Read(text) | Input::Report(text) | Input::Forward(text) | Input::Back(text) => text.times,
         }
     }
 
@@ -677,6 +768,8 @@ impl Input {
             }
             Input::Read(text) => text.read(side),
             Input::Report(text) => text.report(side),
+            Input::Forward(text) => text.turn(side, to_new),
+            Input::Back(text) => text.turn(side, to_old),
         }
     }
 
@@ -707,13 +800,15 @@ fn measure() {
         ("records of 65,520 bytes read", Input::named("read")),
         ("records of 65,520 bytes read and reported", Input::named("report")),
         ("small records read and reported", Input::named("small")),
+        ("old records of 65,535 bytes turned", Input::named("forward")),
+        ("new records of 70,000 bytes turned back", Input::named("back")),
     ];
     for (_, input) in &mut inputs {
         input.check_same();
     }
     check_same_kinds();
     println!("All three sides give the same answers on these inputs, on the like with four kinds of train, on {DAMAGED} damaged");
-    println!("copies of each record, and on {DAMAGED} lists of four kinds with refused steps, run, recorded and read.");
+    println!("copies of each record, and on {DAMAGED} lists of four kinds with refused steps, run, recorded, read and turned back.");
     println!("Lists have {STEPS} accepted steps; the number of trains present stays, but between a leave and the approach after it.");
     for (what, input) in &mut inputs {
         println!("  {what}: {}", input.says());

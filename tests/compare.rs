@@ -33,16 +33,26 @@
 // The table has 96 entries for 65,535 numbers. So in some of the lists, of a bench and of a cabinet alone, more trains come than
 // there are entries, and entries are used again and again; it is counted how often 17 was met, also in texts and without space
 // for a line. One list has every number, and one such is heard. Records in the 14 columns that lines had before are 15 at line 1.
+//
+// Old records and new ones, turned by `weqhaso_to_new` and `weqhaso_to_old`: runs that document 01's form holds, written in both
+// forms; runs that it does not hold, by a train above 96, a kind, a setting or several of these, at any line, also with a refusal of
+// reading before it, in it or behind it; all these and the sample of document 01 damaged in many ways; texts of the other form and of
+// both. Each into buffers just long enough, one byte shorter, shorter, empty and longer: number, line or bytes used, and every byte,
+// also before and behind the buffer. What is taken must come back with every byte through the library alone, and hold the same run
+// for the second program's readers and for `weqhaso_read` and `weqhaso_report`. Texts have up to 70,000 lines, two more bytes than
+// fit in 24 bits, and two a clock step more than there are instants. It is counted what was refused, and where.
 
 #[allow(dead_code)]
 #[path = "../second/second.rs"]
 mod second;
 
 use second::{
-    angles_of, check, joined, lowered_runs, occupied_stretches, read, record_line, record_of,
-    report, report_into, ticks_for, Bench, Cabinet, Command, Gate, Kind, Recorder, Run, Standing,
-    Stretch, FIRST_LINE, FIRST_STEP_LINE, FULL, K, KINDS, LAST_INSTANT, LAST_LINE, LAST_TRAIN,
-    LINE_BYTES, LONGEST_TEXT, PLACES, SETTINGS,
+    alike, angles_of, check, joined, lowered_runs, occupied_stretches, old_line, read, read_old,
+    record_line, record_of, report, report_into, report_line, report_lines, ticks_for, to_new,
+    to_old, turned, Bench, Cabinet, Command, Gate, Kind, Recorder, Run, Standing, Stretch,
+    FIRST_LINE, FIRST_STEP_LINE, FULL, K, KINDS, LAST_INSTANT, LAST_LINE, LAST_TRAIN, LINE_BYTES,
+    LONGEST_TEXT, OLD_FIRST_LINE, OLD_LAST_LINE, OLD_LAST_TRAIN, OLD_SAMPLE, OLD_SETTINGS, PLACES,
+    SETTINGS,
 };
 
 extern "C" {
@@ -148,6 +158,8 @@ extern "C" {
         places_len: usize,
     ) -> u8;
     fn weqhaso_below(text: *const u8, len: usize) -> usize;
+    fn weqhaso_to_new(text: *const u8, len: usize, out: *mut u8, out_len: usize) -> u64;
+    fn weqhaso_to_old(text: *const u8, len: usize, out: *mut u8, out_len: usize) -> u64;
 }
 
 // One of the two functions that give the next stretch.
@@ -162,6 +174,8 @@ const MEETINGS: u32 = 300;
 const CONVOYS: u32 = 600;
 const CROWDS: u32 = 200;
 const HEARD_LISTS: u32 = 3_000;
+const SHELVES: u32 = 1_200;
+const LONG_SHELVES: u32 = 8;
 const WHOLE: u64 = 99;
 const UNTOUCHED: u8 = 99;
 const UNTOUCHED_TRAIN: u32 = 99_999;
@@ -1481,18 +1495,25 @@ fn long_text(r: &mut Random) -> Vec<u8> {
 fn text_of(s: &[u32; SETTINGS], list: &List) -> Vec<u8> {
     let mut lines = vec![FIRST_LINE.to_string()];
     lines.extend((1..).zip(s).map(|(i, value)| record_line(*value, 'S', i)));
-    let taken = (0..list.letters.len()).filter(|i| list.told.answers[*i] == 0);
-    let mut now = 0;
-    for (i, (letter, held)) in taken.zip(&list.accepted) {
-        now += (*letter == 'T') as u32;
-        lines.push(record_line(now, *letter, *held));
-        let (order, train) = (list.told.orders[i], list.told.named[i]);
-        if order != 0 {
-            lines.push(record_line(now, order as char, train));
-        }
-    }
+    let steps = lines_of_list(list).into_iter();
+    lines.extend(steps.map(|(now, letter, number)| record_line(now, letter, number)));
     lines.push(format!("{LAST_LINE}\n"));
     lines.join("\n").into_bytes()
+}
+
+// Its lines between the settings and the last line: instant, letter and number.
+fn lines_of_list(list: &List) -> Vec<(u32, char, u32)> {
+    let taken = (0..list.letters.len()).filter(|i| list.told.answers[*i] == 0);
+    let (mut now, mut lines) = (0, Vec::new());
+    for (i, (letter, held)) in taken.zip(&list.accepted) {
+        now += (*letter == 'T') as u32;
+        lines.push((now, *letter, *held));
+        let (order, train) = (list.told.orders[i], list.told.named[i]);
+        if order != 0 {
+            lines.push((now, order as char, train));
+        }
+    }
+    lines
 }
 
 // A record longer than any that is reported.
@@ -2006,6 +2027,12 @@ enum Yard {
 // three convoys, or more trains than entries.
 fn handed_over(r: &mut Random, hands: &mut Hands, yard: Yard) -> ([u32; SETTINGS], List) {
     let s = close_settings(r, yard);
+    let list = handed_over_under(r, hands, yard, &s);
+    (s, list)
+}
+
+// Such a list under these settings.
+fn handed_over_under(r: &mut Random, hands: &mut Hands, yard: Yard, s: &[u32; SETTINGS]) -> List {
     let many = match yard {
         Yard::Full => PLACES,
         Yard::Crowd => PLACES + 1 + r.below(60) as usize,
@@ -2016,7 +2043,7 @@ fn handed_over(r: &mut Random, hands: &mut Hands, yard: Yard) -> ([u32; SETTINGS
     let mut w = Walk {
         r,
         hands,
-        b: Bench::new(&s).expect("settings that are taken"),
+        b: Bench::new(s).expect("settings that are taken"),
         list: List::default(),
     };
     match yard {
@@ -2035,8 +2062,8 @@ fn handed_over(r: &mut Random, hands: &mut Hands, yard: Yard) -> ([u32; SETTINGS
     // so that each list has a refused step
     w.step('A', 0);
     w.list.end(&w.b);
-    w.hands.lowers.count(&s, &w.list);
-    (s, w.list)
+    w.hands.lowers.count(s, &w.list);
+    w.list
 }
 
 // The record of the steps before one that is refused with one of these numbers, and that step's line after it.
@@ -2215,9 +2242,914 @@ fn swapped_differ(r: &mut Random, s: &[u32; SETTINGS], list: &List, swaps: &mut 
     differ
 }
 
+// The two ways of turning a record: from the form of document 01 into the one that stands, and back.
+#[derive(Clone, Copy, PartialEq, Debug)]
+enum Way {
+    Forward,
+    Back,
+}
+
+const WAYS: [Way; 2] = [Way::Forward, Way::Back];
+
+impl Way {
+    fn other(self) -> Way {
+        match self {
+            Way::Forward => Way::Back,
+            Way::Back => Way::Forward,
+        }
+    }
+
+    // The second program's turning.
+    fn second(self) -> fn(&[u8], &mut [u8]) -> Result<usize, (u8, usize)> {
+        match self {
+            Way::Forward => to_new,
+            Way::Back => to_old,
+        }
+    }
+
+    // The library's: 256 times the bytes written, or the line, and the refusal number.
+    fn library(self, text: &[u8], out: &mut [u8]) -> u64 {
+        let turn = match self {
+            Way::Forward => weqhaso_to_new,
+            Way::Back => weqhaso_to_old,
+        };
+        unsafe { turn(text.as_ptr(), text.len(), out.as_mut_ptr(), out.len()) }
+    }
+
+    // What the library alone makes of a text, in a buffer that is long enough.
+    fn by_library(self, text: &[u8]) -> Option<Vec<u8>> {
+        let mut out = vec![UNTOUCHED; 2 * text.len() + 200];
+        let got = self.library(text, &mut out);
+        out.truncate((got / 256) as usize);
+        (got % 256 == 0).then_some(out)
+    }
+
+    // The form of the texts that go this way: the bytes of a line.
+    fn line_bytes(self) -> usize {
+        match self {
+            Way::Forward => LINE_BYTES - 1,
+            Way::Back => LINE_BYTES,
+        }
+    }
+
+    fn settings(self) -> usize {
+        match self {
+            Way::Forward => OLD_SETTINGS,
+            Way::Back => SETTINGS,
+        }
+    }
+
+    // The first byte of the first step's line.
+    fn first_step(self) -> usize {
+        self.line_bytes() * (1 + self.settings())
+    }
+
+    fn line(self, first: u32, letter: char, number: u32) -> Vec<u8> {
+        match self {
+            Way::Forward => old_line(first, letter, number).into_bytes(),
+            Way::Back => format!("{}\n", record_line(first, letter, number)).into_bytes(),
+        }
+    }
+}
+
+// A text, or the beginning of one that is very long.
+fn shown(text: &[u8]) -> String {
+    String::from_utf8_lossy(&text[..text.len().min(2 * LONGEST_TEXT)]).into_owned()
+}
+
+// Whether the library turns the text in this many bytes as the second program does, and leaves all other bytes, also those before
+// and behind what is lent; and the refusal number.
+fn same_turned(r: &mut Random, way: Way, text: &[u8], bytes: usize) -> (bool, u64) {
+    let (before, behind) = (r.below(9) as usize, 1 + r.below(33) as usize);
+    let mut out: Vec<u8> = (0..before + bytes + behind)
+        .map(|_| r.next() as u8)
+        .collect();
+    let mut want_out = out.clone();
+    let lent = before..before + bytes;
+    let want = way.second()(text, &mut want_out[lent.clone()]).map_or_else(
+        |(number, line)| 256 * line as u64 + number as u64,
+        |used| 256 * used as u64,
+    );
+    let got = way.library(text, &mut out[lent]);
+    let same = got == want && out == want_out;
+    if !same {
+        let at = (0..out.len()).find(|i| out[*i] != want_out[*i]);
+        println!(
+            "{way:?} in {bytes} bytes: {:?} wanted, {:?} got (number, bytes or line)",
+            (want % 256, want / 256),
+            (got % 256, got / 256)
+        );
+        if let Some(at) = at {
+            let near = at..(at + 32).min(out.len());
+            let (wanted, is) = (&want_out[near.clone()], &out[near]);
+            println!("from byte {at} less {before} on {wanted:?} wanted, {is:?} got");
+        }
+        println!("{}", shown(text));
+    }
+    (same, want % 256)
+}
+
+// Whether a text that is taken comes back from the library with every byte; and whether what the library makes of it holds the same
+// run: the second program reads it there, the library reads and reports the form that stands as this run's, and the old form is 15 at
+// line 1 for it.
+fn same_trip(way: Way, text: &[u8]) -> bool {
+    let there = way.by_library(text);
+    let back = there
+        .as_ref()
+        .and_then(|there| way.other().by_library(there));
+    let same = back.as_deref() == Some(text)
+        && there.as_ref().is_some_and(|there| match way {
+            Way::Forward => same_held(there, text),
+            Way::Back => same_held(text, there),
+        });
+    if !same {
+        println!("{way:?} and again, or its run or its report:");
+        println!("{}", shown(text));
+        println!("{}", shown(&there.unwrap_or_default()));
+        println!("{}", shown(&back.unwrap_or_default()));
+    }
+    same
+}
+
+fn same_held(new: &[u8], old: &[u8]) -> bool {
+    let run = read_old(old);
+    let verdicts = [new, old].map(|text| unsafe { weqhaso_read(text.as_ptr(), text.len()) });
+    let refused = |number: usize, line: usize| vec![report_line(number, line, 'R')];
+    let want_new = match &run {
+        Ok(run) if new.len() <= LONGEST_TEXT => report_lines(run),
+        _ => refused(14, 0),
+    };
+    let want_old = match old.len() {
+        0..=LONGEST_TEXT => refused(15, 1),
+        _ => refused(14, 0),
+    };
+    let reported = |text: &[u8], lines: Vec<String>| {
+        let mut want = format!("{}\n", lines.join("\n")).into_bytes();
+        want.extend([UNTOUCHED; 3]);
+        let mut out = vec![UNTOUCHED; want.len()];
+        let got = unsafe { weqhaso_report(text.as_ptr(), text.len(), out.as_mut_ptr(), out.len()) };
+        got == 256 * (want.len() as u64 - 3) && out == want
+    };
+    run.is_ok()
+        && read(new) == run
+        && verdicts == [0, 256 + 15]
+        && reported(new, want_new)
+        && reported(old, want_old)
+}
+
+// The lines of an accepted record that document 01's form cannot hold, by their columns alone.
+fn lines_at_fault(text: &[u8]) -> Vec<usize> {
+    let lines: Vec<&[u8]> = text.chunks(LINE_BYTES).collect();
+    let at_fault = |i: &usize| {
+        let line = lines[*i];
+        // setting i: its earliest is like that in the second line, its latest like that in the third
+        let unlike = (8..=13).contains(i) && line[..8] != lines[1 + i % 2][..8];
+        let above = line[10..15] > b"   96"[..] && b"ABEFOLD".contains(&line[9]);
+        unlike || (*i >= 14 && (above || b"BEF".contains(&line[9])))
+    };
+    let but_last = 0..lines.len() - 1;
+    but_last.filter(at_fault).map(|i| i + 1).collect()
+}
+
+// Records turned forward and back.
+#[derive(Default, Debug)]
+struct Shelves {
+    // the texts by the number that refuses them, 0 for those taken
+    numbers: [[u32; 19]; 2],
+    // the buffers, and how many were too short
+    buffers: u32,
+    no_space: [u32; 2],
+    // the longest texts that were taken; the last line at fault, of 18 and of other refusals
+    longest: [usize; 2],
+    farthest: [usize; 2],
+    // taken: those with train 96, and the lowers of old ones
+    with_96: u32,
+    lowers: u32,
+    grounds: Grounds,
+    // a refusal of reading before the line that would be at fault, in it, and behind it
+    spoiled: [u32; 3],
+    // another number on a D line, 16 there
+    on_d: [u32; 2],
+    // texts of the other form and of both forms
+    foreign: u32,
+}
+
+// Records refused with 18: by setting 8 to 13; by a letter B, E, F; by a train above 96, by 97; by a letter and a train in one line;
+// with several lines at fault; at a line below 300.
+#[derive(Default, Debug)]
+struct Grounds {
+    settings: [u32; 6],
+    letters: [u32; 3],
+    trains: [u32; 2],
+    both: u32,
+    several: u32,
+    far: u32,
+}
+
+impl Grounds {
+    // A record that is refused at this line: whether it is the first that its columns show.
+    fn count(&mut self, text: &[u8], line: usize) -> bool {
+        let faults = lines_at_fault(text);
+        let columns = &text[LINE_BYTES * (line - 1)..LINE_BYTES * line];
+        let letter = b"BEF".iter().position(|letter| *letter == columns[9]);
+        let above = columns[10..15] > b"   96"[..];
+        if line < FIRST_STEP_LINE {
+            self.settings[line - 9] += 1;
+        } else if let Some(kind) = letter {
+            self.letters[kind] += 1;
+            self.both += above as u32;
+        } else {
+            self.trains[(columns[10..15] == *b"   97") as usize] += 1;
+        }
+        self.several += (faults.len() >= 2) as u32;
+        self.far += (line > 300) as u32;
+        let first = faults.first() == Some(&line);
+        if !first {
+            println!("18 at {line}, but the columns show {faults:?}");
+            println!("{}", String::from_utf8_lossy(text));
+        }
+        first
+    }
+
+    fn check_enough(&self) {
+        let each = [&self.settings[..], &self.letters, &self.trains].concat();
+        let others = [self.both, self.several, self.far];
+        let all = each.iter().chain(&others);
+        assert!(all.min() >= Some(&50), "{self:?}");
+    }
+
+    fn says(&self) -> String {
+        let (settings, letters, [above, of_97]) = (self.settings, self.letters, self.trains);
+        let (both, several, far) = (self.both, self.several, self.far);
+        let trains = above + of_97;
+        format!("by settings 8 to 13 {settings:?}, by letters B, E, F {letters:?}, by trains {trains}, of these by 97 {of_97}, by both in one line {both}, with several lines at fault {several}, below line 300 {far}")
+    }
+}
+
+impl Shelves {
+    // A text turned, in buffers that fit, are one byte short, shorter, empty and longer; and, where it is taken, back: how many differ.
+    fn differ(&mut self, r: &mut Random, way: Way, text: &[u8]) -> u32 {
+        let want = turned(way.second(), text);
+        // a refused text gets what it would need
+        let fits = match &want {
+            Ok(there) => there.len(),
+            Err(_) => text.len() + text.len() / 14 + 120,
+        };
+        let short = r.below(fits as u64) as usize;
+        let more = fits + 1 + r.below(60) as usize;
+        let mut differ = 0;
+        for bytes in [fits, fits - 1, short, 0, more] {
+            differ += self.buffer_differs(r, way, text, bytes);
+        }
+        differ + self.text_differs(way, text, &want)
+    }
+
+    fn buffer_differs(&mut self, r: &mut Random, way: Way, text: &[u8], bytes: usize) -> u32 {
+        let (same, number) = same_turned(r, way, text, bytes);
+        self.buffers += 1;
+        self.no_space[way as usize] += (number == 14) as u32;
+        !same as u32
+    }
+
+    // What is asked once of a text, with what the second program makes of it.
+    fn text_differs(&mut self, way: Way, text: &[u8], want: &Result<Vec<u8>, (u8, usize)>) -> u32 {
+        let (number, line) = want.as_ref().err().copied().unwrap_or((0, 0));
+        self.numbers[way as usize][number as usize] += 1;
+        match want {
+            Ok(there) => {
+                let forward = way == Way::Forward;
+                let lines = if forward { there } else { text }.chunks(LINE_BYTES);
+                let lowers = lines.clone().filter(|line| line[9] == b'D').count();
+                let is_96 = |line: &[u8]| line[9] == b'A' && line[10..15] == *b"   96";
+                self.longest[way as usize] = self.longest[way as usize].max(text.len());
+                self.with_96 += lines.into_iter().any(is_96) as u32;
+                self.lowers += lowers as u32 * forward as u32;
+                !same_trip(way, text) as u32
+            }
+            Err((18, _)) => {
+                self.farthest[0] = self.farthest[0].max(line);
+                !self.grounds.count(text, line) as u32
+            }
+            Err(_) => {
+                self.farthest[1] = self.farthest[1].max(line);
+                0
+            }
+        }
+    }
+
+    // A text in one of the forms, damaged once or twice: how many differ.
+    fn damaged_differs(&mut self, r: &mut Random, way: Way, text: &[u8]) -> u32 {
+        let mut text = text.to_vec();
+        for _ in 0..r.one_of(&[1, 1, 2]) {
+            damage_in(r, way, &mut text);
+        }
+        self.differ(r, way, &text)
+    }
+
+    // A record with another number on a D line: 0, a train's, any.
+    fn lower_differs(&mut self, r: &mut Random, way: Way, text: &[u8]) -> u32 {
+        let Some(at) = step_line(r, way, text, b"D") else {
+            return 0;
+        };
+        let n = way.line_bytes();
+        let mut text = text.to_vec();
+        put_number(r, way, &mut text, at);
+        let refused = way.second()(&text, &mut []).err();
+        self.on_d[way as usize] += (refused == Some((16, at / n + 1))) as u32;
+        self.differ(r, way, &text)
+    }
+
+    // A record with the line of a step in it that is refused there: how many differ.
+    fn refused_differs(
+        &mut self,
+        r: &mut Random,
+        way: Way,
+        s: &[u32; SETTINGS],
+        steps: &[(char, u32)],
+    ) -> u32 {
+        let list = list_of(s, steps);
+        let up_to = list_of(s, &steps[..r.below(steps.len() as u64 + 1) as usize]);
+        let (text, before) = match way {
+            Way::Forward => (old_text_of(s, &list), old_text_of(s, &up_to)),
+            Way::Back => (text_of(s, &list), text_of(s, &up_to)),
+        };
+        let place = before.len() - way.line_bytes();
+        let (letter, number) = refused_step(r, way, s, &up_to);
+        let now = up_to.state.head[0] + (letter == 'T') as u32;
+        let line = way.line(now, letter, number);
+        self.differ(r, way, &[&text[..place], &line, &text[place..]].concat())
+    }
+
+    // A record that document 01's form cannot hold, and the same with a refusal of reading before the line at fault, in it, and
+    // behind it: how many differ.
+    fn beyond_differs(&mut self, r: &mut Random, text: &[u8]) -> u32 {
+        let mut differ = self.differ(r, Way::Back, text);
+        let Some((18, line)) = to_old(text, &mut []).err() else {
+            return differ;
+        };
+        let last = text.len() / LINE_BYTES;
+        let before = 1 + r.below(line as u64 - 1) as usize;
+        let behind = line + 1 + r.below((last - line) as u64) as usize;
+        for at in [before, line, behind] {
+            let mut text = text.to_vec();
+            spoil_line(r, &mut text, at);
+            match to_old(&text, &mut []) {
+                Err((18, _)) | Ok(_) => {}
+                Err((_, refused)) => {
+                    let place = (refused >= line) as usize + (refused > line) as usize;
+                    self.spoiled[place] += 1;
+                }
+            }
+            differ += self.differ(r, Way::Back, &text);
+        }
+        differ
+    }
+
+    // A run that document 01's form holds, in both forms, each turned, damaged, mixed with the other, and beyond what it holds: how
+    // many differ.
+    fn run_differs(&mut self, r: &mut Random, s: &[u32; SETTINGS], steps: &[(char, u32)]) -> u32 {
+        let list = list_of(s, steps);
+        let (old, new) = (old_text_of(s, &list), text_of(s, &list));
+        let mut differ = !same_forms(&old, &new) as u32;
+        for (way, own, others) in [(Way::Forward, &old, &new), (Way::Back, &new, &old)] {
+            differ += self.differ(r, way, own);
+            differ += self.differ(r, way, others);
+            for _ in 0..3 {
+                differ += self.damaged_differs(r, way, own);
+            }
+            let both = mixed_forms(r, &old, &new);
+            differ += self.differ(r, way, &both);
+            differ += self.lower_differs(r, way, own);
+            differ += self.refused_differs(r, way, s, steps);
+            self.foreign += 2;
+        }
+        // of a longer run once at its end
+        let far = [r.below(BEYOND), LAST_APPROACH][(steps.len() > 250) as usize];
+        for sort in [r.below(BEYOND), far] {
+            let (s, steps) = beyond(r, s, steps, sort);
+            let list = list_of(&s, &steps);
+            differ += self.beyond_differs(r, &text_of(&s, &list));
+        }
+        differ
+    }
+
+    // A long run in both forms, whole, damaged at any place, without its last line, and with a train or a kind that document 01 does
+    // not have at its last approach: how many differ.
+    fn long_differs(&mut self, r: &mut Random, s: &[u32; SETTINGS], steps: &[(char, u32)]) -> u32 {
+        let list = list_of(s, steps);
+        let (old, new) = (old_text_of(s, &list), text_of(s, &list));
+        let mut differ = !same_forms(&old, &new) as u32;
+        for (way, text) in [(Way::Forward, &old), (Way::Back, &new)] {
+            differ += self.differ(r, way, text);
+            differ += self.damaged_differs(r, way, text);
+            differ += self.differ(r, way, &text[..text.len() - way.line_bytes()]);
+        }
+        let (s, steps) = beyond(r, s, steps, LAST_APPROACH);
+        differ + self.beyond_differs(r, &text_of(&s, &list_of(&s, &steps)))
+    }
+
+    // A text of more bytes than fit in 24 bits, in a buffer that fits: how many differ.
+    fn huge_differs(&mut self, r: &mut Random) -> u32 {
+        let mut differ = 0;
+        for way in WAYS {
+            let text = clock_text(way, 1_150_000);
+            let there = clock_text(way.other(), 1_150_000);
+            assert!(text.len().min(there.len()) >= 1 << 24);
+            differ += self.buffer_differs(r, way, &text, there.len());
+            differ += self.text_differs(way, &text, &Ok(there));
+        }
+        differ
+    }
+
+    // The sample of document 01 in both forms: every byte replaced by every other, cut anywhere, and into every length of a buffer;
+    // the empty text: how many differ.
+    fn sample_differs(&mut self, r: &mut Random) -> u32 {
+        let old = OLD_SAMPLE.as_bytes().to_vec();
+        let new = turned(to_new, &old).expect("the sample is accepted");
+        let mut differ = self.differ(r, Way::Forward, b"") + self.differ(r, Way::Back, b"");
+        for (way, text) in [(Way::Forward, &old), (Way::Back, &new)] {
+            differ += self.differ(r, way, text);
+            for bytes in 0..450 {
+                differ += self.buffer_differs(r, way, text, bytes);
+            }
+            for at in 0..text.len() {
+                differ += self.differ(r, way, &text[..at]);
+                let mut damaged = text.clone();
+                for byte in (0..=255).filter(|byte| *byte != text[at]) {
+                    damaged[at] = byte;
+                    let want = turned(way.second(), &damaged);
+                    differ += self.buffer_differs(r, way, &damaged, 420);
+                    differ += self.text_differs(way, &damaged, &want);
+                }
+            }
+        }
+        differ
+    }
+
+    fn check_enough(&self) {
+        let all = [0, 1, 2, 3, 4, 5, 6, 7, 8, 9, 11, 12, 13, 15, 16];
+        for way in [0, 1] {
+            let numbers = self.numbers[way];
+            assert!(all.iter().all(|k| numbers[*k] >= 25), "{self:?}");
+            assert!(self.on_d[way] >= 500, "{self:?}");
+            assert!(self.no_space[way] >= 3_000, "{self:?}");
+            assert!(self.longest[way] >= 1 << 24, "{self:?}");
+            assert!(self.farthest[way] > 65_536, "{self:?}");
+        }
+        let [[old, ..], [new, ..]] = self.numbers;
+        assert!(old >= 1_000 && new >= 1_000, "{self:?}");
+        assert!(self.numbers[1][17] >= 20, "{self:?}");
+        assert!(self.numbers[1][18] >= 2_000, "{self:?}");
+        assert!(self.with_96 >= 500 && self.lowers >= 5_000, "{self:?}");
+        assert!(self.spoiled.iter().all(|n| *n >= 1_000), "{self:?}");
+        self.grounds.check_enough();
+    }
+
+    fn says(&self) -> String {
+        let [forward, back] = self.numbers.map(|n| n.iter().sum::<u32>());
+        let [old, new] = self.numbers.map(|n| n[0]);
+        let (buffers, short, foreign) = (self.buffers, self.no_space, self.foreign);
+        let (lowers, with_96, longest) = (self.lowers, self.with_96, self.longest);
+        let (spoiled, on_d, farthest) = (self.spoiled, self.on_d, self.farthest);
+        let (beyond, grounds) = (self.numbers[1][18], self.grounds.says());
+        format!("{forward} texts turned forward and {back} back in {buffers} buffers (too short: {short:?}; taken and restored: {old} old records with {lowers} lowers, {new} new ones, {with_96} of both with train 96, the longest of {longest:?} bytes; {foreign} texts of the other form or of both; another number on a D line, 16 there: {on_d:?}; {beyond} refused with 18: {grounds}; a refusal of reading before, in and behind the line of 18: {spoiled:?}; the last line at fault, of 18 and of others: {farthest:?})")
+    }
+}
+
+// Whether the second program turns each form into the other.
+fn same_forms(old: &[u8], new: &[u8]) -> bool {
+    let same =
+        turned(to_new, old).as_deref() == Ok(new) && turned(to_old, new).as_deref() == Ok(old);
+    if !same {
+        println!("the second program does not turn these into each other:");
+        println!("{}", String::from_utf8_lossy(old));
+        println!("{}", String::from_utf8_lossy(new));
+    }
+    same
+}
+
+// What the second program answers to these steps, of trains and of the clock with an angle.
+fn list_of(s: &[u32; SETTINGS], steps: &[(char, u32)]) -> List {
+    let letters: Vec<u8> = steps.iter().map(|step| step.0 as u8).collect();
+    let numbers: Vec<u32> = steps.iter().map(|step| step.1).collect();
+    let degrees = |n: &u32| (*n).min(FULL) as f32 / 64.0;
+    let readings: Vec<f32> = numbers.iter().map(degrees).collect();
+    answered(s, &letters, &numbers, &readings)
+}
+
+// The record of a list in the form of document 01, where it can hold it.
+fn old_text_of(s: &[u32; SETTINGS], list: &List) -> Vec<u8> {
+    let settings = (1..=OLD_SETTINGS).map(|i| old_line(s[i - 1], 'S', i as u32));
+    let lines = lines_of_list(list).into_iter();
+    let without_train = |(now, letter, n)| old_line(now, letter, if letter == 'D' { 0 } else { n });
+    let mut text = OLD_FIRST_LINE.to_string();
+    text.extend(settings.chain(lines.map(without_train)));
+    text.push_str(OLD_LAST_LINE);
+    text.into_bytes()
+}
+
+// A step that is refused after this list: with 17 where some are, else with any number (5 can always be).
+fn refused_step(r: &mut Random, way: Way, s: &[u32; SETTINGS], list: &List) -> (char, u32) {
+    let mut b = Bench::new(s).expect("settings that are taken");
+    for (letter, n) in &list.accepted {
+        b.step(*letter, *n).expect("a step that is accepted");
+    }
+    let approaches: &[char] = match way {
+        Way::Forward => &['A'],
+        Way::Back => &['A', 'B', 'E', 'F'],
+    };
+    let letters = [approaches, &['O', 'L', 'T']].concat();
+    let angle = r.below(FULL as u64) as u32;
+    let mut by_number: Vec<Vec<(char, u32)>> = vec![Vec::new(); 18];
+    for letter in letters {
+        for n in (0..=97).chain([angle, FULL, FULL + 1, 9_999]) {
+            if let Err(number) = b.clone().step(letter, n) {
+                by_number[number as usize].push((letter, n));
+            }
+        }
+    }
+    if by_number[17].is_empty() {
+        by_number.retain(|steps| !steps.is_empty());
+    } else {
+        by_number.drain(..17);
+    }
+    let number = r.below(by_number.len() as u64) as usize;
+    r.one_of(&by_number[number])
+}
+
+// The place of any line of a step or command with one of these letters, after some tries.
+fn step_line(r: &mut Random, way: Way, text: &[u8], letters: &[u8]) -> Option<usize> {
+    let (n, first) = (way.line_bytes(), way.first_step());
+    let many = (text.len().saturating_sub(first) / n) as u64;
+    let from = r.below(many.max(1)) as usize;
+    let places = (0..many as usize).map(|i| first + n * ((from + i) % many as usize));
+    places.take(400).find(|at| letters.contains(&text[*at + 9]))
+}
+
+// Another number in the last columns of the line at this place.
+fn put_number(r: &mut Random, way: Way, text: &mut [u8], at: usize) {
+    let end = at + way.line_bytes() - 1;
+    let own = text[at + 10..end].to_vec();
+    while text[at + 10..end] == own {
+        let most = r.one_of(&[2, 97, 5_761, 10_000]);
+        let any = r.below(most) as u32;
+        let number = match way {
+            Way::Forward => r.one_of(&[any, 0, 1, 95, 96, 97, 98, 256, 5_760, 5_761, 9_999]),
+            Way::Back => r.one_of(&[any, 0, 96, 97, 5_761, 9_999, 10_000, 65_535, 65_536, 99_999]),
+        };
+        let columns = way.line(0, 'A', number);
+        text[at + 10..end].copy_from_slice(&columns[10..columns.len() - 1]);
+    }
+}
+
+// Another digit in the place of this one.
+fn put_digit(r: &mut Random, text: &mut [u8], at: usize) {
+    if text[at].is_ascii_digit() {
+        text[at] = r.one_of(b"0123456789");
+    }
+}
+
+// A line of a record spoiled, so that it is mostly refused.
+fn spoil_line(r: &mut Random, text: &mut [u8], line: usize) {
+    let at = LINE_BYTES * (line - 1);
+    let letter = r.one_of(b"XSBDULOAT");
+    match r.below(6) {
+        0 => text[at + 15] = b' ',
+        1 => text[at + r.below(15) as usize] = b'\n',
+        2 => text[at + 9] = letter,
+        3 => put_digit(r, text, at + 7),
+        _ => put_number(r, Way::Back, text, at),
+    }
+}
+
+// Damage to a text in one of the forms: a byte replaced, put in or taken out, a line dropped, doubled or exchanged, the end cut,
+// something behind it, another digit, number or letter, a setting at a limit, the line of a step put in.
+fn damage_in(r: &mut Random, way: Way, text: &mut Vec<u8>) {
+    let n = way.line_bytes();
+    if text.len() < way.first_step() + 2 * n {
+        text.push(r.one_of(b"\n 0"));
+        return;
+    }
+    let lines = (text.len() / n) as u64;
+    let at = n * r.below(lines) as usize;
+    let byte = r.below(text.len() as u64) as usize;
+    let setting = 1 + r.below(way.settings() as u64) as usize;
+    let any_step = step_line(r, way, text, b"ABEFOLTDU").unwrap_or(at);
+    match r.below(18) {
+        0 => text[byte] = r.next() as u8,
+        1 => text[byte] = r.one_of(b"0123456789 ABEFCOLTDUS\n"),
+        2 => text.insert(byte, r.one_of(b"0 \n")),
+        3 => {
+            text.remove(byte);
+        }
+        4 => drop(text.drain(at..at + n)),
+        5 => {
+            let line = text[at..at + n].to_vec();
+            text.splice(at..at, line);
+        }
+        6 => {
+            let next = (at + n * r.one_of(&[1, 1, 2, 5])).min(n * (lines as usize - 1));
+            (0..n).for_each(|i| text.swap(at + i, next + i));
+        }
+        7 => text.truncate(r.one_of(&[byte, at, text.len() - 1])),
+        8 => text.push(r.one_of(b"\n 0\0")),
+        9 => text.extend_from_within(at..at + n),
+        10 => put_digit(r, text, at + 7),
+        11 => put_digit(r, text, at + n - 2),
+        12 | 13 => put_number(r, way, text, any_step),
+        14 => text[any_step + 9] = r.one_of(b"ABEFOLTDUSC"),
+        15 | 16 => {
+            let own: u32 = String::from_utf8_lossy(&text[n * setting..n * setting + 8])
+                .trim()
+                .parse()
+                .unwrap_or(0);
+            let limit = r.one_of(&[0, 1, 2, 5_760, 5_761, 60_000, 60_001, 99_999_999]);
+            let near = [own.saturating_sub(1), (own + 1).min(99_999_999)];
+            let value = r.one_of(&[near[0], near[0], near[1], near[1], limit]);
+            let line = way.line(value, 'S', setting as u32);
+            text[n * setting..n * (setting + 1)].copy_from_slice(&line);
+        }
+        _ => {
+            let letter = r.one_of(b"AAAAOLBEFT");
+            let any = 1 + r.below(96) as u32;
+            let number = r.one_of(&[any, any, 1, 2, 3, 0, 96, 97]);
+            let mut line = way.line(0, letter as char, number);
+            if any_step > way.first_step() {
+                line[..8].copy_from_slice(&text[any_step - n..any_step - n + 8]);
+            }
+            text.splice(any_step..any_step, line);
+        }
+    }
+}
+
+// A text of both forms, of the lines of one run.
+fn mixed_forms(r: &mut Random, old: &[u8], new: &[u8]) -> Vec<u8> {
+    let olds: Vec<&[u8]> = old.chunks(LINE_BYTES - 1).collect();
+    let news: Vec<&[u8]> = new.chunks(LINE_BYTES).collect();
+    let many = olds.len();
+    let (olds_head, news_head) = (1 + OLD_SETTINGS, 1 + SETTINGS);
+    let at = r.below(many as u64) as usize;
+    let same = if at < olds_head { at } else { at + 6 };
+    let narrow = |line: &&[u8]| [&line[..10], &line[11..]].concat();
+    let mut lines: Vec<Vec<u8>> = match r.below(2) {
+        0 => olds.iter().map(|line| line.to_vec()).collect(),
+        _ => news.iter().map(|line| line.to_vec()).collect(),
+    };
+    match r.below(8) {
+        0 => return [&olds[..at], &news[same..]].concat().concat(),
+        1 => return [&news[..same], &olds[at..]].concat().concat(),
+        2 => return [&olds[..olds_head], &news[news_head..]].concat().concat(),
+        3 => return [&news[..news_head], &olds[olds_head..]].concat().concat(),
+        // one line of the other form
+        4 if lines.len() == many => lines[at] = news[same].to_vec(),
+        4 => lines[same] = olds[at].to_vec(),
+        // thirteen settings in the old form, or its D lines with their trains; seven in the new form
+        5 if lines.len() == many => {
+            let six = news[olds_head..news_head].iter().map(narrow);
+            lines.splice(olds_head..olds_head, six);
+        }
+        5 => drop(lines.drain(olds_head..news_head)),
+        6 if lines.len() == many => {
+            for (i, line) in lines.iter_mut().enumerate().skip(olds_head) {
+                if line[9] == b'D' {
+                    *line = narrow(&news[i + 6]);
+                }
+            }
+        }
+        6 => {
+            for line in lines.iter_mut().skip(news_head).filter(|l| l[9] == b'D') {
+                line[10..15].copy_from_slice(b"    0");
+            }
+        }
+        // one behind the other
+        _ => lines.push(r.one_of(&[old, new]).to_vec()),
+    }
+    lines.concat()
+}
+
+// Settings under which document 01's form holds a record: the times of all kinds alike, now and then at the limits.
+fn alike_settings(r: &mut Random) -> [u32; SETTINGS] {
+    loop {
+        let s = settings(r);
+        let mut seven: [u32; OLD_SETTINGS] = std::array::from_fn(|i| s[i]);
+        if r.below(12) == 0 {
+            seven = r.one_of(&[
+                [60_000, 60_000, 1, 1, 60_000, 60_000, 60_000],
+                [5_761, 60_000, 1, 5_760, 60_000, 59_999, 1],
+                [2, 60_000, 5_760, 5_760, 0, 59_999, 1],
+                [2, 2, 5_760, 5_760, 0, 1, 1],
+                [2, 2, 5_760, 1, 60_000, 60_000, 5_760],
+            ]);
+        }
+        let s = alike(&seven);
+        if check(&s) == 0 {
+            return s;
+        }
+    }
+}
+
+// The steps with kind 1 for all trains and numbers from 1 to 96: from the first on, from the last on, or any.
+fn fitted(r: &mut Random, steps: &[(char, u32)]) -> Vec<(char, u32)> {
+    let all: Vec<u32> = (1..=OLD_LAST_TRAIN).collect();
+    let mut usable = in_some_order(r, &all);
+    let mut present: Vec<(u32, u32)> = Vec::new();
+    let mut fitted = Vec::new();
+    for (letter, n) in steps {
+        let place = present.iter().position(|(own, _)| own == n);
+        fitted.push(match (letter, place) {
+            ('T', _) => ('T', *n),
+            ('O', Some(i)) => ('O', present[i].1),
+            ('L', Some(i)) => {
+                let (_, number) = present.swap_remove(i);
+                usable.push(number);
+                ('L', number)
+            }
+            _ => {
+                let number = usable.pop().expect("at most 96 trains are present");
+                present.push((*n, number));
+                ('A', number)
+            }
+        });
+    }
+    fitted
+}
+
+// Settings, and accepted steps under them that document 01's form holds: some by chance, some in which the kept trains change hands.
+fn on_shelf(r: &mut Random) -> ([u32; SETTINGS], Vec<(char, u32)>) {
+    let yard = match r.below(40) {
+        0 => Yard::Full,
+        1 | 2 => Yard::Crowd,
+        3..=5 => Yard::Few,
+        6..=9 => Yard::Meeting,
+        10..=13 => Yard::Convoy,
+        _ => {
+            let s = alike_settings(r);
+            let least = r.one_of(&[1, 1, 1, 60, 200, 600]);
+            let list = steps(r, &s, least);
+            return (s, fitted(r, &list.accepted));
+        }
+    };
+    let close = close_settings(r, yard);
+    let s = alike(&std::array::from_fn(|i| close[i]));
+    let list = handed_over_under(r, &mut Hands::default(), yard, &s);
+    (s, fitted(r, &list.accepted))
+}
+
+// The sorts of what document 01's form does not hold: a train above 96 or 97, a kind, both in one approach; one setting unlike kind 1's;
+// a train or a kind at the last approach; several of these; any trains.
+const BEYOND: u64 = 9;
+const LAST_APPROACH: u64 = 5;
+
+fn beyond(
+    r: &mut Random,
+    s: &[u32; SETTINGS],
+    steps: &[(char, u32)],
+    sort: u64,
+) -> ([u32; SETTINGS], Vec<(char, u32)>) {
+    let (mut s, mut steps) = (*s, steps.to_vec());
+    let approaches: Vec<usize> = (0..steps.len()).filter(|i| steps[*i].0 == 'A').collect();
+    let Some(last) = approaches.last().copied() else {
+        return (unlike(r, &s), steps);
+    };
+    let any = r.one_of(&approaches);
+    let number = r.one_of(&[97, 97, 98, 100, 255, 256, 9_999, 10_000, 32_768, 65_535]);
+    let kind = r.one_of(&['B', 'E', 'F']);
+    match sort {
+        0 => rename(&mut steps, any, number),
+        1 => rename(&mut steps, any, 97),
+        2 => steps[any].0 = kind,
+        3 => {
+            steps[any].0 = kind;
+            rename(&mut steps, any, number);
+        }
+        4 => s = unlike(r, &s),
+        LAST_APPROACH => match r.below(3) {
+            0 => rename(&mut steps, last, number),
+            1 => rename(&mut steps, last, 97),
+            _ => steps[last].0 = kind,
+        },
+        6 => {
+            s = unlike(r, &s);
+            s = unlike(r, &s);
+            rename(&mut steps, any, number);
+        }
+        7 => {
+            rename(&mut steps, any, number);
+            rename(&mut steps, last, 101);
+            let other = r.one_of(&approaches);
+            steps[other].0 = kind;
+        }
+        _ => {
+            let trains = some_trains(r, PLACES);
+            for step in steps.iter_mut().filter(|step| step.0 != 'T') {
+                step.1 = trains[step.1 as usize - 1];
+            }
+        }
+    }
+    (s, steps)
+}
+
+// The train of this approach gets another number, up to its leave.
+fn rename(steps: &mut [(char, u32)], approach: usize, number: u32) {
+    let own = steps[approach].1;
+    for step in &mut steps[approach..] {
+        if step.0 != 'T' && step.1 == own {
+            step.1 = number;
+            if step.0 == 'L' {
+                return;
+            }
+        }
+    }
+}
+
+// One of the settings 8 to 13 changed, so that all are taken.
+fn unlike(r: &mut Random, s: &[u32; SETTINGS]) -> [u32; SETTINGS] {
+    // no setting is too small for the margin ahead
+    let mut wide = *s;
+    wide[5] = 60_000;
+    loop {
+        let mut other = r.one_of(&[*s, wide]);
+        let i = 7 + r.below(6) as usize;
+        let near = [other[i] - 1, other[i] + 1];
+        other[i] = r.one_of(&[near[0], near[1], 60_000, other[1], other[0]]);
+        if other[i] != s[i] && check(&other) == 0 {
+            return other;
+        }
+    }
+}
+
+// A run of so many trains one after the other under K, that document 01's form holds.
+fn one_by_one(trains: u32) -> Vec<(char, u32)> {
+    let mut steps = Vec::new();
+    for i in 0..trains {
+        let n = 1 + i % OLD_LAST_TRAIN;
+        steps.push(('A', n));
+        steps.extend([FULL, FULL / 2, 0].map(|angle| ('T', angle)));
+        steps.extend([('O', n), ('T', 0), ('L', n), ('T', FULL)]);
+    }
+    steps
+}
+
+// So many clock steps under K with the arm at 90 degrees, in one of the forms.
+fn clock_text(way: Way, steps: usize) -> Vec<u8> {
+    let list = List::default();
+    let mut text = match way {
+        Way::Forward => old_text_of(&K, &list),
+        Way::Back => text_of(&K, &list),
+    };
+    let last = text.split_off(way.first_step());
+    let mut line = way.line(0, 'T', FULL);
+    text.reserve(line.len() * (steps + 1));
+    for _ in 0..steps {
+        let nines = line[..8].iter().rev().take_while(|c| **c == b'9').count();
+        line[8 - nines..8].fill(b'0');
+        let digit = &mut line[7 - nines];
+        *digit = (*digit).max(b'0') + 1;
+        text.extend_from_slice(&line);
+    }
+    text.extend(last);
+    text
+}
+
+// Whether one clock step more than there are instants is refused with 10 at its line, each way.
+fn same_end() -> bool {
+    WAYS.into_iter().all(|way| {
+        let text = clock_text(way, LAST_INSTANT as usize + 1);
+        let line = (1 + way.settings()) as u64 + LAST_INSTANT as u64 + 1;
+        let mut out = [UNTOUCHED; 64];
+        let got = way.library(&text, &mut out);
+        let same = got == 256 * line + 10 && out == [UNTOUCHED; 64];
+        if !same {
+            println!("{way:?}, a clock step too many: 10 at line {line} wanted, {got} got");
+        }
+        same
+    })
+}
+
+// Old and new records, turned both ways: what was compared, and how many differ.
+fn shelves() -> (Shelves, u32) {
+    let mut r = Random(0x5be0_cd19_137e_2179);
+    let mut shelves = Shelves::default();
+    let mut differ = shelves.sample_differs(&mut r);
+    for _ in 0..SHELVES {
+        let (s, steps) = on_shelf(&mut r);
+        differ += shelves.run_differs(&mut r, &s, &steps);
+    }
+    for _ in 0..LONG_SHELVES {
+        let s = alike_settings(&mut r);
+        let list = steps(&mut r, &s, 12_000);
+        let steps = fitted(&mut r, &list.accepted);
+        differ += shelves.long_differs(&mut r, &s, &steps);
+    }
+    // more lines than 16 bits count
+    differ += shelves.long_differs(&mut r, &K, &one_by_one(7_000));
+    differ += shelves.huge_differs(&mut r) + !same_end() as u32;
+    (shelves, differ)
+}
+
 fn main() {
     // beside all else
-    let clock = std::thread::spawn(|| same_clock(&K));
+    let clock = std::thread::spawn(|| (same_clock(&K), shelves()));
     let mut r = Random(0x2545_f491_4f6c_dd1d);
     let mut q = Random(0x9e37_79b9_7f4a_7c15);
     let mut p = Random(0xd1b5_4a32_d192_ed03);
@@ -2353,7 +3285,12 @@ fn main() {
     let lists = HAND_LISTS + FULL_YARDS + MEETINGS + CONVOYS + CROWDS;
     records += lines.records + crowded.no_space;
     tried += 2 * (LAST_INSTANT as u64 + 1);
-    differ += !clock.join().expect("the clock's comparison") as u32;
+    let (same_clock, (shelves, shelves_differ)) = clock.join().expect("comparisons beside");
+    differ += !same_clock as u32 + shelves_differ;
+    if differ == 0 {
+        shelves.check_enough();
+    }
+    let shelves = shelves.says();
     let (texts, reports) = (joins.texts, 3 * joins.texts);
     let (joining, wholes, apart) = (joins.joining, joins.wholes, joins.apart);
     let (swapped, sorts) = (swaps.all(), swaps.tried);
@@ -2365,7 +3302,7 @@ fn main() {
     let (lowers, named, alone) = (hands.lowers.all, hands.lowers.named, given.lowers.all);
     let five = hands.lowers.five;
     println!(
-        "{tried} steps, {states} final states, {looks} looks, {swapped} swapped neighbours (AA, AO, OO, LO, LL: {sorts:?}; the raise {other_train} times with the other train's leave, {other_place} times at the other place; the trains {other_entries} times in other entries), {HEARD_LISTS} lists of {heard} steps that a cabinet alone hears, with {alone} lowers, a full table on a bench and in a cabinet alone ({crowded}; {crowded_alone}), {records} recordings ({no_space} without space for a D line, {no_space_17} without space where 17 is met), {texts} texts (the longest has {longest} bytes; {full_texts} refused with 17; {old} in 14 columns, 15 at line 1; another number on a command line, 16 there: on D another present train's, 0, a neighbour, out of range, on U: {refused:?}) with their stretches and {reports} reports, {joining} texts with touching stretches joined (of two, of three or more, of six or more, through one instant, still running, running since the last instant: {wholes:?}; one tick apart and not joined: {apart}), {lists} lists in which the kept trains change hands, with {lowers} lowers (of {five} the train's number has five digits; the named train due in one tick with another, with two or more, with one that approached at another instant; not the lowest number, not the last to approach, neither, not the first, not the first at its latest: {named:?}), {differ} differ"
+        "{tried} steps, {states} final states, {looks} looks, {swapped} swapped neighbours (AA, AO, OO, LO, LL: {sorts:?}; the raise {other_train} times with the other train's leave, {other_place} times at the other place; the trains {other_entries} times in other entries), {HEARD_LISTS} lists of {heard} steps that a cabinet alone hears, with {alone} lowers, a full table on a bench and in a cabinet alone ({crowded}; {crowded_alone}), {records} recordings ({no_space} without space for a D line, {no_space_17} without space where 17 is met), {texts} texts (the longest has {longest} bytes; {full_texts} refused with 17; {old} in 14 columns, 15 at line 1; another number on a command line, 16 there: on D another present train's, 0, a neighbour, out of range, on U: {refused:?}) with their stretches and {reports} reports, {joining} texts with touching stretches joined (of two, of three or more, of six or more, through one instant, still running, running since the last instant: {wholes:?}; one tick apart and not joined: {apart}), {lists} lists in which the kept trains change hands, with {lowers} lowers (of {five} the train's number has five digits; the named train due in one tick with another, with two or more, with one that approached at another instant; not the lowest number, not the last to approach, neither, not the first, not the first at its latest: {named:?}), {shelves}, {differ} differ"
     );
     std::process::exit((differ > 0) as i32);
 }

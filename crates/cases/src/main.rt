@@ -1,6 +1,6 @@
 // The bench cases a to m of document 01 through the built functions, one line each; what the bench shows along its sample run, and a cabinet
-// alone; trains of four kinds; the train of a lower; 96 trains; reports of stretches that touch; a record with a five-digit train; and its
-// sample record with the report.
+// alone; trains of four kinds; the train of a lower; 96 trains; reports of stretches that touch; a record with a five-digit train; document
+// 01's records turned into the new form and back (the longer one is read on standard input); and the new form with the report.
 // A step shows 0 (taken with no command), D with its train or U (taken, with that command) or its refusal number; `second/expected` has the
 // same lines.
 use arm::Gate;
@@ -10,6 +10,8 @@ use bench::Moved;
 use cabinet::Answer;
 use cabinet::Cabinet;
 use cabinet::Stepped;
+use converter::Converted;
+use libc::STDIN_FILENO;
 use libc::STDOUT_FILENO;
 use runs::Step;
 use settings::Kind;
@@ -755,6 +757,129 @@ fn sample() {
     print(&lines);
 }
 
+// ---- document 01's sample record, in both forms
+
+// As it stands there: 19 lines of 15 bytes.
+const OLD_SAMPLE: [u8; 285] = *b"   GATE RECORD
+       3 S   1
+       4 S   2
+    2880 S   3
+    5760 S   4
+       0 S   5
+       3 S   6
+       1 S   7
+       0 A   1
+       1 T5760
+       1 D   0
+       2 T2880
+       3 T   0
+       3 O   1
+       4 T   0
+       4 L   1
+       4 U   0
+       5 T5760
+ END OF RECORD
+";
+
+// As the recorder would write it: 25 lines of 16 bytes.
+fn new_sample() -> [u8; 400] {
+    let mut text = [0u8; 400];
+    converter::to_new(&OLD_SAMPLE, &mut text);
+    text
+}
+
+// Into the new form, and back.
+fn both_ways() {
+    let new = new_sample();
+    let mut old = [0u8; 285];
+    converter::to_old(&new, &mut old);
+    print(b"forward\n");
+    print(&new);
+    print(b"back\n");
+    print(&old);
+}
+
+// Number and line of a refusal, 0 and 0 where the text is turned.
+fn show_converted(c: Converted) {
+    let verdict = c.verdict;
+    show_verdict(verdict);
+    show(c.line as u64);
+}
+
+// A text in document 01's form, with space for the sample in the new one.
+fn show_to_new(text: &[u8]) {
+    show_converted(converter::to_new(text, &mut [0u8; 400]));
+}
+
+// The sample with this line in place of its own from byte `at` on.
+fn show_old_with(at: usize, n: u32, letter: u8, m: u32) {
+    let mut text = OLD_SAMPLE;
+    lines::put_line(&mut text, at, 4, n, letter, m);
+    show_to_new(&text);
+}
+
+// The sample; the empty text; the new form; on line 9 train 97, on line 11 the train of the lower, on line 9 the letter of kind 2, and on
+// line 7 X 2; the sample with a byte of space too few.
+fn old_texts() {
+    print(b"old");
+    show_to_new(&OLD_SAMPLE);
+    show_to_new(b"");
+    show_to_new(&new_sample());
+    show_old_with(8 * 15, 0, b'A', 97);
+    show_old_with(10 * 15, 1, b'D', 1);
+    show_old_with(8 * 15, 0, b'B', 1);
+    show_old_with(6 * 15, 2, b'S', 6);
+    show_converted(converter::to_new(&OLD_SAMPLE, &mut [0u8; 399]));
+    print(b"\n");
+}
+
+// A text in the new form, with space for the sample in document 01's.
+fn show_to_old(text: &[u8]) {
+    show_converted(converter::to_old(text, &mut [0u8; 285]));
+}
+
+// A record like the sample's new form, with this line in place of its own from byte `at` on.
+fn show_new_with(mut text: [u8; 400], at: usize, n: u32, letter: u8, m: u32) {
+    lines::put_line(&mut text, at, 5, n, letter, m);
+    show_to_old(&text);
+}
+
+// The new form; of train 97; with setting 10 as 4, setting 13 as 3, and on line 15 the letter of kind 2; document 01's form; of train 97, with
+// the angle 2881 on line 18, and with setting 13 as 3; the new form with a byte of space too few.
+fn new_texts() {
+    let text = new_sample();
+    let of_97 = sample_record(97);
+    print(b"new");
+    show_to_old(&text);
+    show_to_old(&of_97);
+    show_new_with(text, 10 * 16, 4, b'S', 10);
+    show_new_with(text, 13 * 16, 3, b'S', 13);
+    show_new_with(text, 14 * 16, 0, b'B', 1);
+    show_to_old(&OLD_SAMPLE);
+    show_new_with(of_97, 17 * 16, 2, b'T', 2881);
+    show_new_with(of_97, 13 * 16, 3, b'S', 13);
+    show_converted(converter::to_old(&text, &mut [0u8; 284]));
+    print(b"\n");
+}
+
+// Document 01's longer example, which is standard input, forward and back: the bytes each way, and whether every byte is back.
+fn quarry() {
+    let mut text = [0u8; 5760];
+    let mut new = [0u8; 6240];
+    let mut back = [0u8; 5760];
+    io::read_full(STDIN_FILENO, &mut text);
+    let forward = converter::to_new(&text, &mut new);
+    let backward = converter::to_old(&new, &mut back);
+    print(b"quarry");
+    show(forward.bytes as u64);
+    show(backward.bytes as u64);
+    if lines::stands(&back, 0, &text) {
+        print(b" same\n");
+    } else {
+        print(b" other\n");
+    }
+}
+
 fn main() {
     case_a();
     cases_b_c_d();
@@ -782,5 +907,9 @@ fn main() {
     joined_running();
     not_joined();
     five_digits();
+    both_ways();
+    old_texts();
+    new_texts();
+    quarry();
     sample();
 }

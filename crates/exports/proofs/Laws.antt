@@ -27,7 +27,10 @@ use Rattle.recorder.proofs.Recording.{spliced-always, ends-always}
 use Rattle.lines.specs.Bytes.{fits}
 use Rattle.report.specs.declared.Reported.{Reported}
 use Rattle.report.specs.Report.{writtenBytes, shortBuffer, ReportWritten}
-use Rattle.exports.specs.Exports.{Answered, CabinetAnswered, pack, bytesOf, RecordAnswered, Reports}
+use Rattle.exports.specs.Exports.{Answered, CabinetAnswered, pack, bytesOf, RecordAnswered, packConverted, ConvertAnswered, Reports}
+use Rattle.lines.specs.declared.Layout.{Layout}
+use Rattle.converter.specs.declared.Converted.{Converted}
+use Rattle.converter.specs.Restore.{Converts}
 
 number-finished : (k : ℕ) (s : Settings) (xs : List Step) → numberOf (finishedBy k s xs .verdict) ≡ k
 number-finished zero s xs = refl
@@ -109,3 +112,14 @@ report-answered lines out g after n w e = record { number = rw e (ap (λ (x : Re
     go : (b : Bool) → pack (cond b (writtenBytes (length lines)) shortBuffer .bytes) (numberOf (cond b (writtenBytes (length lines)) shortBuffer .verdict)) ≡ cond b (pack (length lines) 0) 14
     go true = refl
     go false = refl
+
+-- ---- a text in the other form
+
+pub convert-answered : (f g : Layout) (t d : List ℕ) (c : Converted) (e : List ℕ) (n : ℕ) → Converts f g t d c e → n ≡ packConverted c → ConvertAnswered f g t d n e
+convert-answered f g t d c e n w p =
+    record {
+      number = p ∙ ap packConverted (w .gives);
+      bytes = rw (w .gives) at (w .leaves);
+      only = rw (w .gives) at (w .only);
+      restores = rw (w .gives) at (w .restores);
+    }

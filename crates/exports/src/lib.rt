@@ -7,20 +7,23 @@ ghost use Rattle.runs.specs.declared.Feed.the-variants.{ToBench};
 ghost use Rattle.runs.specs.Run.{stepsOf, over, told, runRefusal};
 ghost use Rattle.alone.specs.Alone.{heardOf, aloneRefusal};
 ghost use Rattle.recording.specs.RunRecorded.{recordRefusal};
+ghost use Rattle.lines.specs.declared.Layout.the-variants.{Old, New};
 ghost use Rattle.recorder.specs.Text.{current};
 ghost use Rattle.reader.specs.Read.{readText};
 ghost use Rattle.stretches.specs.declared.Sort.the-variants.{Lowered, Occupied};
 ghost use Rattle.stretches.specs.Walk.{startCursor, nothingFrom, stretchesAhead};
 ghost use Rattle.stretches.specs.Figures.{total};
 ghost use Rattle.report.specs.Report.{reportOf};
-ghost use Rattle.exports.specs.Exports.{Answered, CabinetAnswered, RecordAnswered, packed, Reports};
+ghost use Rattle.exports.specs.Exports.{Answered, CabinetAnswered, RecordAnswered, packed, packConverted, ConvertAnswered, Reports};
 ghost use Rattle.exports.specs.State.{commandNumber, standingNumber, kindAs, kindNumber, benchNumbers, stateRefusal, StateAnswered};
-ghost use Rattle.exports.specs.Look.{poseNumbers, posed, gateNumber, looks, lookRefusal, LookAnswered};
+ghost use Rattle.exports.specs.Look.{posed, gateNumber, looks, lookRefusal, LookAnswered};
 ghost use Rattle.exports.specs.Places.{cursorOf, cursorIn, flag, foundNumber, nextNumbers, nextFrom, Placed};
 use arm::Command;
 use arm::Gate;
 use bench::Bench;
+use converter::Converted;
 use settings::Kind;
+use settings::Verdict;
 use stretches::Cursor;
 use stretches::Next;
 use stretches::Sort;
@@ -279,6 +282,34 @@ pub extern "C" fn weqhaso_read(text: &[u8]) -> u64
     let v = o.verdict;
     let line = o.line as u64;
     (line % 72057594037927936) * 256 + (settings::number(v) as u64)
+}
+
+// 256 times the bytes written, or the line at fault, and the refusal number.
+fn pack_converted(c: Converted) -> u64
+    ensures { λ r. ⌜ r ≡ packConverted c ⌝ }
+{
+    let v = c.verdict;
+    match v {
+        Verdict::Taken => ((c.bytes as u64) % 72057594037927936) * 256,
+        Verdict::Refused(k) => ((c.line as u64) % 72057594037927936) * 256 + (k as u64),
+    }
+}
+
+// A record text in document 01's form, turned into the form that the recorder writes (`converter::to_new`): 256 times the bytes written where it is
+// taken, else 256 times the line at fault and the refusal number.
+#[no_mangle]
+pub extern "C" fn weqhaso_to_new(text: &[u8], out: &mut [u8]) -> u64
+    ensures { λ r. ⌜ ConvertAnswered Old New (now (text .entry)) (now (out .entry)) r (now (out .exit)) ⌝ }
+{
+    pack_converted(converter::to_new(text, out))
+}
+
+// And back (`converter::to_old`).
+#[no_mangle]
+pub extern "C" fn weqhaso_to_old(text: &[u8], out: &mut [u8]) -> u64
+    ensures { λ r. ⌜ ConvertAnswered New Old (now (text .entry)) (now (out .entry)) r (now (out .exit)) ⌝ }
+{
+    pack_converted(converter::to_old(text, out))
 }
 
 // The report of a record text (`report::report`): 256 times the bytes written, and the refusal number, 14 where the buffer is too short.

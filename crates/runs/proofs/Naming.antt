@@ -2,10 +2,11 @@
 use Prim.Native.Nat.{ℕ, suc, _≤_}
 use native.Mathlib.Omega.{arith}
 use mathlib.Core.Path.{_≡_, refl, sym, _∙_, ap}
-use mathlib.Core.Bool.{true, false, false≢true}
+use mathlib.Core.Bool.{Bool, true, false≢true}
 use mathlib.Core.List.{List, []}
 use lib.ListN.{take}
-use borrow.Author.Tests.{leb-true}
+use lib.Dec.{leb}
+use borrow.Author.Tests.{le-leb, leb-true}
 use Rattle.settings.specs.declared.Settings.{Settings}
 use Rattle.arm.specs.declared.Command.{Command}
 use Rattle.arm.specs.declared.Command.the-variants.{Up, Down}
@@ -22,7 +23,7 @@ use Rattle.runs.specs.Letters.{orderTrain}
 use Rattle.runs.specs.Match.{Valid, Match}
 use Rattle.runs.specs.Soonest.{builtAt, SoonestNamed, SoonestAlways}
 use Rattle.runs.proofs.Soonest.{soonest-says}
-use Rattle.runs.proofs.Invariants.{present-train}
+use Rattle.runs.proofs.Invariants.{Named, present-named, valid-named}
 use Rattle.runs.proofs.Single.{lowered-due}
 use Rattle.runs.proofs.Agreement.{table-soonest, fresh-match, run-match}
 
@@ -33,24 +34,24 @@ lower-says m n Up Down e = (refl, refl, cc)
 lower-says m n Down Up e = absurd (let z : _≡_ {A = ℕ} 0 1 = cc in omega arith)
 lower-says m n Down Down e = absurd (let z : _≡_ {A = ℕ} 0 1 = cc in omega arith)
 
--- the train of a command is at most the one it was given
-order-most : (n : ℕ) (k l : Command) → orderTrain (given n k l) ≤ n
-order-most n Up Up = omega arith
-order-most n Up Down = omega arith
-order-most n Down Up = omega arith
-order-most n Down Down = omega arith
-
--- so after accepted steps it is at most 65,535
-pub order-small : (s : Settings) (h g : History) → Valid s g → orderTrain (orderBetween s h g) ≤ 65535
-order-small s h g v = go (soonest s g) refl
+-- a lower names a train that the steps name; 0 stands for none
+pub order-named : (test : ℕ → Bool) → test 0 ≡ true → (s : Settings) (h g : History) → Named test g → test (orderTrain (orderBetween s h g)) ≡ true
+order-named test none s h g v = either (command s h) (command s g)
   where
-    go : (f : First) → soonest s g ≡ f → orderTrain (orderBetween s h g) ≤ 65535
-    go Nobody e = let m = order-most (trainOf (soonest s g)) (command s h) (command s g) in let z : trainOf (soonest s g) ≡ 0 = ap trainOf e in omega arith
-    go (Train n t) e =
-        let m = order-most (trainOf (soonest s g)) (command s h) (command s g) in
-        let z : trainOf (soonest s g) ≡ n = ap trainOf e in
-        let l = train-says n (present-train s g v n (soonest-says s g .present n t e .0)) .1 in
-        omega arith
+    own : (f : First) → soonest s g ≡ f → test (trainOf f) ≡ true
+    own Nobody e = none
+    own (Train n t) e = present-named test g v n (soonest-says s g .present n t e .0)
+
+    either : (k l : Command) → test (orderTrain (given (trainOf (soonest s g)) k l)) ≡ true
+    either Up Up = none
+    either Up Down = own (soonest s g) refl
+    either Down Up = none
+    either Down Down = none
+
+-- so after accepted steps its number is at most 65,535
+pub order-small : (s : Settings) (h g : History) → Valid s g → orderTrain (orderBetween s h g) ≤ 65535
+order-small s h g v =
+    leb-true _ 65535 (order-named (λ (n : ℕ). leb n 65535) refl s h g (valid-named s (λ (n : ℕ). leb n 65535) (λ n e. le-leb n 65535 (train-says n e .1)) g v))
 
 -- one whose instant is reached is a train
 reached-train : (t : ℕ) (f : First) → reachedBy t f ≡ true → (u : ℕ) × (f ≡ Train (trainOf f) u) × (u ≤ t)

@@ -1,12 +1,12 @@
 -- The trains present, one by one: an approach puts its train to them, a leave takes it out. Assumes nothing.
-use Prim.Native.Nat.{ℕ, suc, _-_, _≤_}
+use Prim.Native.Nat.{ℕ, zero, suc, _-_, _≤_}
 use native.Mathlib.Omega.{arith}
 use mathlib.Core.Path.{_≡_, refl, sym, _∙_, ap}
 use mathlib.Core.Bool.{Bool, true, false, not, _||_, cond, false≢true}
 use mathlib.Core.List.{List, [], _∷_}
 use lib.Dec.{eqb}
 use lib.ListN.{length, take}
-use borrow.Author.Tests.{eqb-true, eqb-false, ne-eqb}
+use borrow.Author.Tests.{eqb-true, eqb-false, eq-eqb, ne-eqb}
 use Rattle.settings.specs.declared.Settings.{Settings}
 use Rattle.bench.specs.Bench.{freshBench}
 use Rattle.runs.specs.declared.Step.the-variants.{Approach, Occupy, Leave, Clock}
@@ -59,6 +59,29 @@ length-without n (m ∷ ns) e = go (eqb m n) e (length-without n ns)
     go true e later = refl
     go false e later = ap suc (later e)
 
+-- numbers from 1 to k, none twice, are at most k
+abbrev Within : ℕ → List ℕ → Type 0
+Within k ns = (n : ℕ) → isAmong n ns ≡ true → (1 ≤ n) × (n ≤ k)
+
+pub few : (k : ℕ) (ns : List ℕ) → Distinct ns → Within k ns → length ns ≤ k
+few zero [] d w = omega arith
+few zero (n ∷ ns) d w = absurd (let b = w n (rw (eq-eqb n n refl)) in omega (arith, b .0, b .1))
+few (suc k) ns d w = go (isAmong (suc k) ns) refl (few k ns d) (few k (without (suc k) ns) (distinct-without (suc k) ns d))
+  where
+    rest : (n : ℕ) (b : Bool) → eqb (suc k) n ≡ b → cond b false (isAmong n ns) ≡ true → (1 ≤ n) × (n ≤ k)
+    rest n true q a = absurd (false≢true a)
+    rest n false q a = let b = w n a in (b .0, omega (arith, b .1, eqb-false (suc k) n q))
+
+    own : isAmong (suc k) ns ≡ false → Within k ns
+    own e n a =
+        let b = w n a in
+        let other : n ≡ suc k → ⊥ = λ z. false≢true (sym e ∙ ap (λ (m : ℕ). isAmong m ns) (sym z) ∙ a) in
+        (b .0, omega (arith, b .1, other))
+
+    go : (b : Bool) → isAmong (suc k) ns ≡ b → (Within k ns → length ns ≤ k) → (Within k (without (suc k) ns) → length (without (suc k) ns) ≤ k) → length ns ≤ suc k
+    go true e r q = omega (arith, length-without (suc k) ns e, q (λ n a. rest n (eqb (suc k) n) refl (sym (among-without (suc k) n ns d) ∙ a)))
+    go false e r q = omega (arith, r (own e))
+
 -- ---- over a history of accepted steps
 module _ (s : Settings) where
   -- one that names train n, which is then at p
@@ -70,7 +93,7 @@ module _ (s : Settings) where
       go true = refl
       go false = old m
 
-  counted : (h : History) → Valid s h → Counted h
+  pub counted : (h : History) → Valid s h → Counted h
   counted [] v = record { trains = []; once = tt; present = λ n. refl; count = refl }
   counted (Approach k n ∷ h) v =
       let c = counted h (v .0) in

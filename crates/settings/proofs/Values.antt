@@ -4,7 +4,7 @@ use native.Mathlib.Numerals.{add-one}
 use native.Mathlib.Omega.{arith}
 use mathlib.Core.Path.{_≡_, refl, sym, ap, ap₂, _∙_}
 use mathlib.Core.List.{List, [], _∷_}
-use lib.ListN.{length, drop, getD, drop-of-length-le}
+use lib.ListN.{length, take, drop, getD, drop-of-length-le}
 use lib.Seq.{drop-cons}
 use Rattle.settings.specs.declared.Kind.the-variants.{Loaded, Empty, Engine, RailCar}
 use Rattle.settings.specs.declared.Settings.{Settings}
@@ -51,6 +51,11 @@ pub small-at : (vs : List ℕ) → Small vs → (i : ℕ) → getD vs i 0 < 1000
 small-at [] p i = omega arith
 small-at (v ∷ vs) p zero = p .0
 small-at (v ∷ vs) p (suc i) = small-at vs (p .1) i
+
+pub small-take : (n : ℕ) (vs : List ℕ) → Small vs → Small (take n vs)
+small-take zero vs p = tt
+small-take (suc n) [] p = tt
+small-take (suc n) (v ∷ vs) p = (p .0, small-take n vs (p .1))
 
 pub thirteen-small : (s : Settings) → Accepted s → Small (thirteen s)
 thirteen-small s a =

@@ -1,4 +1,5 @@
--- The settings as a list of thirteen values, in the order of their indices (document 01, "Seven settings"; document 02, "Three": settings 8 to 13).
+-- The settings as a list of thirteen values, in the order of their indices (document 01, "Seven settings"; document 02, "Three": settings 8 to 13),
+-- or of seven, with the times of kind 1 for all (document 02, "Seven").
 -- Decides beyond them: a setting that is not given is 0. Assumes nothing.
 use Prim.Native.Nat.{ℕ, suc}
 use mathlib.Core.Bool.{cond}
@@ -6,6 +7,10 @@ use mathlib.Core.List.{List, [], _∷_}
 use lib.Dec.{eqb}
 use Rattle.settings.specs.declared.Times.{Times}
 use Rattle.settings.specs.declared.Settings.{Settings}
+
+-- 1 to 7
+abbrev pub seven : Settings → List ℕ
+seven s = s .loaded .earliest ∷ s .loaded .latest ∷ s .fall ∷ s .rise ∷ s .worthwhile ∷ s .ahead ∷ s .behind ∷ []
 
 -- 1 to 7, then the times of kinds 2 to 4, kind by kind with the earliest first
 abbrev pub thirteen : Settings → List ℕ
@@ -26,6 +31,21 @@ withSetting s index v =
       empty = record { earliest = cond (eqb index 8) v (s .empty .earliest); latest = cond (eqb index 9) v (s .empty .latest) };
       engine = record { earliest = cond (eqb index 10) v (s .engine .earliest); latest = cond (eqb index 11) v (s .engine .latest) };
       railcar = record { earliest = cond (eqb index 12) v (s .railcar .earliest); latest = cond (eqb index 13) v (s .railcar .latest) };
+    }
+
+-- kinds 2 to 4 with the times of kind 1
+abbrev pub kindsAlike : Settings → Settings
+kindsAlike s =
+    record {
+      loaded = s .loaded;
+      fall = s .fall;
+      rise = s .rise;
+      worthwhile = s .worthwhile;
+      ahead = s .ahead;
+      behind = s .behind;
+      empty = s .loaded;
+      engine = s .loaded;
+      railcar = s .loaded;
     }
 
 -- none is given

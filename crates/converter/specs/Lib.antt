@@ -1,0 +1,4 @@
+pub mod Fault
+pub mod Convert
+pub mod Restore
+pub mod First
