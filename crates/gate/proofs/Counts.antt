@@ -25,6 +25,7 @@ use Rattle.converter.specs.Fault.{settingsIn, faultLine}
 use Rattle.converter.specs.Convert.{otherText, refusedWith, convertedBy, converted, isTaken}
 use Rattle.converter.specs.Restore.{Converts}
 use Rattle.converter.proofs.Lengths.{other-long}
+use Rattle.live.specs.declared.Given.{Given}
 use Rattle.report.specs.declared.Reported.{Reported}
 use Rattle.report.specs.Report.{ReportWritten}
 use Rattle.gate.specs.Held.{Held, otherOf, Turned}
@@ -41,6 +42,10 @@ report-held {lines} {out} {r} {after} h w =
     let left : after ≡ splice out 0 lines = rw f at (w .left) in
     let long : length after ≡ length (splice out 0 lines) = ap length left in
     record { whole = given; bytes = left; within = counted _ _ (omega (arith, simp (length-append, length-drop) at long)) }
+
+-- what a line of the bench's input gives is at its buffer's start
+pub given-held : (out after : List ℕ) {r g : Given} → r ≡ g → g .bytes ≤ length out → length after ≡ length out → Counts (r .bytes) after
+given-held out after p h l = counted _ _ (omega (arith, ap (λ (x : Given). x .bytes) p))
 
 -- ---- a text in the other form
 

@@ -1,18 +1,24 @@
-// The program over records, standard input to standard output: `gate report` writes a record's report, `gate to-new` and `gate to-old` the record
-// in the other form.
+// The program, standard input to standard output: `gate bench` runs a bench live, `gate report` writes a record's report, `gate to-new` and
+// `gate to-old` the record in the other form. Its status is 0; 1 where a text or a step was refused; 2 where it was called wrongly or could not
+// read or write. A program has no exit status here: with `status-on-3` before the word it writes the digit to descriptor 3 at its end.
+mod keyboard;
+mod words;
+
 ghost use mathlib.Core.Path.{_≡_};
 ghost use Rattle.io.specs.Counts.{Counts};
 ghost use Prim.Native.Nat.{_≤_};
 ghost use lib.ListN.{length};
 ghost use Rattle.report.specs.Report.{reportOf};
-ghost use Rattle.gate.specs.Word.{isWord, taskOf};
+ghost use Rattle.gate.specs.Word.{taskOf};
 ghost use Rattle.gate.specs.Held.{Held, Turned};
 use converter::Converted;
-use libc::STDERR_FILENO;
 use libc::STDIN_FILENO;
-use libc::STDOUT_FILENO;
 use lines::Layout;
 use settings::Verdict;
+use steplines::is_word;
+use words::put_out;
+use words::say;
+use words::say_refusal;
 
 // What was read of the input, and whether a read failed.
 struct Input {
@@ -22,10 +28,17 @@ struct Input {
 
 // What the command line asks for.
 enum Task {
+    Bench,
     Report,
     ToNew,
     ToOld,
     Usage,
+}
+
+// What the command line asks for, and whether the status is to be told.
+struct Call {
+    task: Task,
+    tells: bool,
 }
 
 // Reads standard input to its end, or until the buffer is full or a read fails.
@@ -56,22 +69,13 @@ fn read_input(buf: &mut [u8]) -> Input
     }
 }
 
-// Whether a word of the command line is `want`, whole.
-fn is_word(want: &[u8], word: &[u8]) -> bool
-    ensures { λ r. ⌜ r ≡ isWord (now (want .entry)) (now (word .entry)) ⌝ }
-{
-    if word.len() == want.len() {
-        lines::stands(word, 0, want)
-    } else {
-        false
-    }
-}
-
 // What a word of the command line asks for.
 fn task_of(word: &[u8]) -> Task
     ensures { λ r. ⌜ r ≡ taskOf (now (word .entry)) ⌝ }
 {
-    if is_word(b"report", word) {
+    if is_word(b"bench", word) {
+        Task::Bench
+    } else if is_word(b"report", word) {
         Task::Report
     } else if is_word(b"to-new", word) {
         Task::ToNew
@@ -82,15 +86,32 @@ fn task_of(word: &[u8]) -> Task
     }
 }
 
-// What the command line asks for: the program's name and one word.
-fn asked() -> Task {
+// What word i of the command line asks for, where there are so many.
+fn task_at(i: usize, words: usize) -> Task {
     let mut word = io::buffer();
-    let n = os::arg(1, &mut word);
+    let n = os::arg(i, &mut word);
     let task = task_of(&word[..n]);
-    if os::arg_count() == 2 {
+    if os::arg_count() == words {
         task
     } else {
         Task::Usage
+    }
+}
+
+// What the command line asks for: one word, or `status-on-3` and one.
+fn asked() -> Call {
+    let mut word = io::buffer();
+    let n = os::arg(1, &mut word);
+    if is_word(b"status-on-3", &word[..n]) {
+        Call {
+            task: task_at(2, 3),
+            tells: true,
+        }
+    } else {
+        Call {
+            task: task_at(1, 2),
+            tells: false,
+        }
     }
 }
 
@@ -103,25 +124,35 @@ fn make_report(text: &[u8], out: &mut [u8]) -> usize
     r.bytes
 }
 
-// The report of a text, on standard output.
-fn write_report(text: &[u8]) {
-    let mut out = [0u8; 156000];
-    let n = make_report(text, &mut out);
-    if !io::write_all(STDOUT_FILENO, &out[..n]) {
-        os::fail(b"gate: standard output");
+// Whether a report is that of a refused text: its one line has the letter R.
+fn is_refusal(report: &[u8]) -> bool {
+    if 17 < report.len() {
+        report[17] == b'R'
+    } else {
+        false
     }
 }
 
+// The report of a text, on standard output: the status.
+fn write_report(text: &[u8]) -> u8 {
+    let mut out = [0u8; 156000];
+    let n = make_report(text, &mut out);
+    if !put_out(&out[..n]) {
+        return 2;
+    }
+    if is_refusal(&out[..n]) { 1 } else { 0 }
+}
+
 // The report of standard input. One byte above the report's limit is enough to know that a text is too long.
-fn report_input() {
+fn report_input() -> u8 {
     let mut text = io::large_buffer();
     let input = read_input(&mut text);
     let n = input.bytes;
     if input.failed {
         os::fail(b"gate: standard input");
-    } else {
-        write_report(&text[..n]);
+        return 2;
     }
+    write_report(&text[..n])
 }
 
 // A text of the form `f` in the other form, at the start of a buffer that holds it whole, its other bytes as they were.
@@ -133,45 +164,6 @@ fn make_text(f: Layout, text: &[u8], out: &mut [u8]) -> Converted
         Layout::Old => converter::to_new(text, out),
         Layout::New => converter::to_old(text, out),
     }
-}
-
-fn say(words: &[u8]) {
-    io::write_all(STDERR_FILENO, words);
-}
-
-// A refusal in words.
-fn say_reason(number: u8) {
-    match number {
-        1 => say(b"a setting is outside its range"),
-        2 => say(b"an earliest time is not above the ticks of a fall"),
-        3 => say(b"the ahead margin is too small"),
-        4 => say(b"the behind margin is too small"),
-        5 => say(b"there is no such train number"),
-        6 => say(b"an approach of a train that is not away"),
-        7 => say(b"an occupy of a train that is not coming"),
-        8 => say(b"an occupy before the train's earliest time"),
-        9 => say(b"a leave of a train that is not inside"),
-        10 => say(b"the clock is at its end"),
-        11 => say(b"a coming train is at its latest"),
-        12 => say(b"not an allowed reading"),
-        13 => say(b"the arm breaks the movement rule"),
-        15 => say(b"the line is not in the columns, is missing, or follows the last"),
-        16 => say(b"not the instant or the command that the recorder would put there"),
-        17 => say(b"96 trains are present"),
-        18 => say(b"the old form cannot hold this line"),
-        _ => say(b"the text does not fit"),
-    }
-}
-
-// The line, the number and the words of a refusal, on standard error.
-fn say_refusal(line: usize, number: u8) {
-    say(b"line ");
-    io::print_decimal(STDERR_FILENO, line as u64);
-    say(b": refused ");
-    io::print_decimal(STDERR_FILENO, number as u64);
-    say(b": ");
-    say_reason(number);
-    say(b"\n");
 }
 
 // Zeros for a text of at most 1,000,000 bytes and one byte more, and for what it is turned into.
@@ -187,8 +179,8 @@ fn turned_buffer() -> [u8; 1066800]
     [0; 1066800]
 }
 
-// A text of the form `f` in the other form, on standard output; a refusal on standard error.
-fn write_text(f: Layout, text: &[u8])
+// A text of the form `f` in the other form, on standard output; a refusal on standard error: the status.
+fn write_text(f: Layout, text: &[u8]) -> u8
     requires { ⌜ length (now text) ≤ 1000000 ⌝ }
 {
     let mut out = turned_buffer();
@@ -196,36 +188,57 @@ fn write_text(f: Layout, text: &[u8])
     let v = c.verdict;
     let n = c.bytes;
     match v {
-        Verdict::Taken => {
-            if !io::write_all(STDOUT_FILENO, &out[..n]) {
-                os::fail(b"gate: standard output");
-            }
+        Verdict::Taken => { if put_out(&out[..n]) { 0 } else { 2 } }
+        Verdict::Refused(k) => {
+            say_refusal(
+                c.line as u64,
+                k,
+                b"the line is not in the columns, is missing, or follows the last",
+            );
+            1
         }
-        Verdict::Refused(k) => say_refusal(c.line, k),
     }
 }
 
 // Standard input in the other form. One byte above the limit is enough to know that a text is too long.
-fn convert_input(f: Layout) {
+fn convert_input(f: Layout) -> u8 {
     let mut text = text_buffer();
     let input = read_input(&mut text);
     let n = input.bytes;
     if input.failed {
         os::fail(b"gate: standard input");
-    } else if 1000000 < n {
+        return 2;
+    }
+    if 1000000 < n {
         say(b"gate: the record is longer than 1,000,000 bytes\n");
-    } else {
-        write_text(f, &text[..n]);
+        return 2;
+    }
+    write_text(f, &text[..n])
+}
+
+// How the program is used.
+fn usage() -> u8 {
+    say(
+        b"usage: gate WORD < INPUT > OUTPUT\nbench: runs a bench, settings and steps in, the lines of its record out as they are made\nreport: the report of a record\nto-new: a record of 14 columns in 15 columns\nto-old: a record of 15 columns in 14 columns\n",
+    );
+    2
+}
+
+fn run(task: Task) -> u8 {
+    match task {
+        Task::Bench => keyboard::bench_input(),
+        Task::Report => report_input(),
+        Task::ToNew => convert_input(Layout::Old),
+        Task::ToOld => convert_input(Layout::New),
+        Task::Usage => usage(),
     }
 }
 
 fn main() {
-    match asked() {
-        Task::Report => report_input(),
-        Task::ToNew => convert_input(Layout::Old),
-        Task::ToOld => convert_input(Layout::New),
-        Task::Usage => say(
-            b"usage: gate report < RECORD\n       gate to-new < OLD > NEW\n       gate to-old < NEW > OLD\nreport: the report of a record\nto-new: a record of 14 columns in 15 columns\nto-old: a record of 15 columns in 14 columns\n",
-        ),
+    let call = asked();
+    let task = call.task;
+    let status = run(task);
+    if call.tells {
+        io::print_decimal(3, status as u64);
     }
 }
