@@ -1,5 +1,5 @@
--- Laws of a line's meaning, by its fields; and that the first 1,001 bytes of a line tell it. Assumes nothing.
-use Prim.Native.Nat.{ℕ, zero, suc, _+_, _-_, _≤_, _<_}
+-- Laws of a line's meaning, by its fields. Assumes nothing.
+use Prim.Native.Nat.{ℕ, suc, _+_, _-_, _≤_, _<_}
 use native.Mathlib.Nat.{zero-add, add-suc, suc-add}
 use native.Mathlib.Numerals.{add-one}
 use native.Mathlib.Omega.{arith}
@@ -7,8 +7,7 @@ use mathlib.Core.Path.{_≡_, refl, sym, ap, _∙_}
 use mathlib.Core.Bool.{Bool, true, false, cond, _&&_, _||_}
 use mathlib.Core.List.{List, [], _∷_, map}
 use borrow.Table.Steps.{cases}
-use borrow.Author.Tests.{leb-true, leb-false, lt-ltb}
-use lib.Dec.{eqb, leb, ltb}
+use lib.Dec.{eqb, ltb}
 use lib.Ieee.{Float}
 use lib.ListN.{length, take, drop, getD, drop-of-length-le, length-drop}
 use lib.Seq.{drop-cons, take-all, length-take-le}
@@ -151,22 +150,3 @@ word-length l i n h = length-take-le n (drop i l) (omega (arith, length-drop i l
 
 pub one-byte : (l : List ℕ) (i n : ℕ) → i < length l → n ≡ 1 → take n (drop i l) ≡ getD l i 0 ∷ []
 one-byte l i n h e = rw (e, drop-cons l i 0 h)
-
--- ---- a line that is cut after 1,001 bytes
-
-cut-begins : (b n : ℕ) (l : List ℕ) → begins b (take (suc n) l) ≡ begins b l
-cut-begins b n [] = refl
-cut-begins b n (a ∷ l) = refl
-
-cut-long : (l : List ℕ) → 1001 < length l → meaningOf (take 1001 l) ≡ meaningOf l
-cut-long l h =
-    let same = cut-begins 35 1000 l in
-    let most : length (take 1001 l) ≡ 1001 = length-take-le 1001 l (omega arith) in
-    cases (begins 35 l)
-    (λ c. sym (meaning-comment (take 1001 l) (same ∙ c)) ∙ meaning-comment l c)
-    (λ c.
-    sym (meaning-long (take 1001 l) (same ∙ c) (lt-ltb 1000 (length (take 1001 l)) (omega arith)))
-    ∙ meaning-long l c (lt-ltb 1000 (length l) (omega arith)))
-
-pub meaning-cut : (line : List ℕ) → meaningOf (take 1001 line) ≡ meaningOf line
-meaning-cut line = cases (leb (length line) 1001) (λ e. rw (take-all 1001 line (leb-true _ _ e))) (λ e. cut-long line (leb-false _ _ e))

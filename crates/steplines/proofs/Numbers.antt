@@ -3,14 +3,14 @@ use Prim.Native.Nat.{ℕ, zero, suc, _+_, _-_, _*_, _≤_, _<_}
 use native.Mathlib.Numerals.{add-one}
 use native.Mathlib.Omega.{arith}
 use mathlib.Core.Path.{_≡_, refl, sym, ap, _∙_}
-use mathlib.Core.Bool.{Bool, true, false, cond, _&&_, _||_, and-assoc}
+use mathlib.Core.Bool.{true, false, _&&_, _||_, and-assoc}
 use mathlib.Core.List.{List, [], _∷_, _++_}
 use borrow.Table.Steps.{cases}
 use borrow.Author.Tests.{leb-true, leb-false, le-leb, lt-leb, lt-ltb}
 use lib.Dec.{eqb, leb, ltb}
 use lib.ListN.{length, getD, take, drop, drop-of-length-le, length-drop}
 use lib.Seq.{drop-cons, take-all}
-use Rattle.steplines.specs.Numbers.{isDigit, allDigits, isNumber, valueFrom, smaller, largest, numberOf, wholeOf, decimalsOf}
+use Rattle.steplines.specs.Numbers.{isDigit, allDigits, isNumber, valueFrom, smaller, largest, wholeOf, decimalsOf}
 
 -- ---- digits, byte by byte
 module _ (l : List ℕ) (i : ℕ) where

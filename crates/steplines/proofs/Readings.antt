@@ -2,20 +2,18 @@
 -- One 64th of 10 ^ 6 is 15,625. Assumes nothing.
 use Prim.Native.Nat.{ℕ, zero, suc, _+_, _-_, _*_, _/_, _%_, _^_, _≤_, _<_}
 use native.Mathlib.Omega.{arith}
-use native.Mathlib.Nat.{zero-add, pow-suc, add-mul, mul-assoc, mul-right-comm, mul-le-mul-right, one-le-pow, mod-lt, div-add-mod', div-eq-of-lt-le, zero-div}
+use native.Mathlib.Nat.{zero-add, pow-suc, add-mul, mul-assoc, mul-right-comm, mul-le-mul-right, mod-lt, div-add-mod', div-eq-of-lt-le, zero-div}
 use mathlib.Core.Path.{_≡_, refl, sym, ap, _∙_}
-use mathlib.Core.Bool.{Bool, true, false, cond, not, _&&_, _||_, and-true, and-false}
+use mathlib.Core.Bool.{Bool, true, false, cond, _&&_, and-true, and-false}
 use mathlib.Core.List.{List, [], _∷_, _++_}
 use borrow.Table.Steps.{cases}
-use borrow.Author.Tests.{eqb-true, eqb-false, leb-true, leb-false, eq-eqb, ne-eqb, le-leb, lt-leb}
+use borrow.Author.Tests.{eqb-true, eqb-false, leb-true, leb-false, eq-eqb, ne-eqb, lt-leb}
 use lib.Dec.{eqb, leb}
 use lib.ListN.{length, getD, drop}
 use Rattle.settings.proofs.Laws.{both, within-says}
-use Rattle.arm.specs.declared.Reading.{Reading}
 use Rattle.arm.specs.declared.Reading.the-variants.{Angle, Refused}
 use Rattle.steplines.specs.Numbers.{isDigit, allDigits, valueFrom, value, smaller, largest, numberOf, angleOf, readingOf}
-use Rattle.steplines.specs.Walk.{withDecimals, mostWith}
-use Rattle.steplines.proofs.Numbers.{smaller-is, smaller-not}
+use Rattle.steplines.specs.Walk.{withDecimals, mostWith, bySix}
 
 -- ---- the value of digits
 
@@ -82,7 +80,9 @@ later-below : (n : ℕ) (l : List ℕ) → allDigits l ≡ true → value (drop 
 unfolding allDigits valueFrom
 later-below zero l h = omega (arith, value-below l h)
 later-below (suc n) [] h = omega arith
-later-below (suc n) (b ∷ l) h = rw (pow-suc 10 n, pow-suc 10 (length l)) (omega (arith, later-below n l (both (isDigit b) (allDigits l) h .1), mul-assoc (value (drop n l)) (10 ^ n) 10))
+later-below (suc n) (b ∷ l) h =
+    rw (pow-suc 10 n, pow-suc 10 (length l))
+    (omega (arith, later-below n l (both (isDigit b) (allDigits l) h .1), mul-assoc (value (drop n l)) (10 ^ n) 10))
 
 -- ---- the angle by six decimals: d 64ths of p, where d * 10 ^ 6 is x of p and s more
 module _ (d p x s : ℕ) (spreads : d * 1000000 ≡ x * p + s) (less : s < p) where
@@ -126,13 +126,10 @@ module _ (d p x s : ℕ) (spreads : d * 1000000 ≡ x * p + s) (less : s < p) wh
       (λ f. rw (e, f) (ne-eqb (64 * d % p) 0 (λ z. omega (arith, z, remainder, left-some (eqb-false (x % 15625) 0 f))))))
       (λ e. rw e (ne-eqb (64 * d % p) 0 (λ z. omega (arith, z, remainder, eqb-false s 0 e))))
 
-pub most-small : (minus : Bool) → mostWith minus ≤ 5760
-most-small true = omega arith
-most-small false = omega arith
-
--- the angle by x, and by what is left after the six decimals
-abbrev bySix : Bool → ℕ → ℕ → Reading
-bySix minus s x = cond ((eqb s 0 && eqb (x % 15625) 0) && leb (x / 15625) (mostWith minus)) (Angle (x / 15625)) Refused
+-- an angle that is taken is small
+pub six-small : (minus a : Bool) (q : ℕ) → (a && leb q (mostWith minus)) ≡ true → q ≤ 5760
+six-small true a q t = omega (arith, leb-true q 0 (both a (leb q 0) t .1))
+six-small false a q t = leb-true q 5760 (both a (leb q 5760) t .1)
 
 -- with a minus only 0 is taken, which a whole number of 64ths is only if d is
 none-given : (d p : ℕ) → d ≡ 0 → 64 * d / p ≡ 0
@@ -180,7 +177,10 @@ cut-whole : (minus : Bool) (s w : ℕ) (l : List ℕ) → bySix minus s (withDec
 cut-whole minus s w l =
     cases (leb w largest)
     (λ e. rw e)
-    (λ e. rw e (six-above minus s (withDecimals w l 6) (omega (arith, decimals-least w l, leb-false w largest e)) ∙ sym (six-above minus s (withDecimals largest l 6) (omega (arith, decimals-least largest l)))))
+    (λ e.
+    rw e
+    (six-above minus s (withDecimals w l 6) (omega (arith, decimals-least w l, leb-false w largest e))
+    ∙ sym (six-above minus s (withDecimals largest l 6) (omega (arith, decimals-least largest l)))))
 
 cut-left : (n : ℕ) → eqb (n * 1000000) 0 ≡ eqb (smaller n largest) 0
 cut-left zero = refl
@@ -189,17 +189,12 @@ cut-left (suc n) =
     ∙ sym (cases (leb (suc n) largest) (λ e. rw e (ne-eqb (suc n) 0 (λ z. omega arith))) (λ e. rw e))
 
 -- the reading by six decimals
-module _ (minus : Bool) (whole decimals : List ℕ) (digits : allDigits decimals ≡ true) where
-  reading-six : bySix minus (numberOf (drop 6 decimals)) (withDecimals (numberOf whole) decimals 6) ≡ readingOf minus whole decimals
-  reading-six =
-      let w = value whole in
-      let r = value (drop 6 decimals) in
-      sym
-      (angle-by minus (value (whole ++ decimals)) (length decimals) (r * 1000000) (withDecimals w decimals 6)
-      (rw (value-append 0 whole decimals) (spread 6 w decimals)) (later-below 6 decimals digits)
-      ∙ rw (cut-left r) (cut-whole minus (smaller r largest) w decimals))
-
-  -- as it is worked out: n the whole part, x with six decimals, m the most, s what is left
-  pub reading-by : (n x m s : ℕ) → n ≡ numberOf whole → x ≡ withDecimals n decimals 6 → m ≡ mostWith minus → s ≡ numberOf (drop 6 decimals)
-      → cond ((eqb s 0 && eqb (x % 15625) 0) && leb (x / 15625) m) (Angle (x / 15625)) Refused ≡ readingOf minus whole decimals
-  reading-by n x m s a b c d = rw (b, a, c, d) reading-six
+pub reading-six : (minus : Bool) (whole decimals : List ℕ) → allDigits decimals ≡ true
+    → bySix minus (numberOf (drop 6 decimals)) (withDecimals (numberOf whole) decimals 6) ≡ readingOf minus whole decimals
+reading-six minus whole decimals h =
+    let w = value whole in
+    let r = value (drop 6 decimals) in
+    sym
+    (angle-by minus (value (whole ++ decimals)) (length decimals) (r * 1000000) (withDecimals w decimals 6)
+    (rw (value-append 0 whole decimals) (spread 6 w decimals)) (later-below 6 decimals h)
+    ∙ rw (cut-left r) (cut-whole minus (smaller r largest) w decimals))

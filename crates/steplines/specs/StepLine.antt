@@ -2,7 +2,7 @@
 -- (A, B, E, F, O, L with a train number, T with the arm's reading in degrees). Empty lines and lines that begin with # mean nothing; every other
 -- line is wrong (document 01's refusal 15). Every line has one meaning. Assumes nothing.
 use Prim.Native.Nat.{ℕ}
-use mathlib.Core.Bool.{Bool, true, false, cond, _&&_}
+use mathlib.Core.Bool.{Bool, true, cond, _&&_}
 use mathlib.Core.List.{List, [], _∷_, map}
 use lib.Dec.{eqb, ltb}
 use lib.ListN.{length}

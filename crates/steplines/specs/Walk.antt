@@ -1,10 +1,13 @@
 -- What the code finds on its way through a line: where a field stands, and a number with the decimals that decide an angle. No meaning of a line rests
 -- on it. Assumes nothing.
-use Prim.Native.Nat.{ℕ, zero, suc, _+_, _-_, _*_, _≤_, _<_}
+use Prim.Native.Nat.{ℕ, zero, suc, _+_, _-_, _*_, _/_, _%_, _≤_, _<_}
 use mathlib.Core.Path.{_≡_}
-use mathlib.Core.Bool.{Bool, true, false, cond, not}
+use mathlib.Core.Bool.{Bool, true, false, cond, not, _&&_}
 use mathlib.Core.List.{List, [], _∷_}
+use lib.Dec.{eqb, leb}
 use lib.ListN.{length, take, drop, getD}
+use Rattle.arm.specs.declared.Reading.{Reading}
+use Rattle.arm.specs.declared.Reading.the-variants.{Angle, Refused}
 use Rattle.steplines.specs.declared.Field.{Field}
 use Rattle.steplines.specs.Fields.{isBlank, fields}
 
@@ -41,3 +44,7 @@ withDecimals v digits (suc n) = withDecimal (withDecimals v digits n) digits n
 -- the largest angle that is taken
 abbrev pub mostWith : Bool → ℕ
 mostWith minus = cond minus 0 5760
+
+-- the angle of x, a number with six decimals, and of s, what follows them: 15,625 are one 64th of 10 ^ 6
+abbrev pub bySix : Bool → ℕ → ℕ → Reading
+bySix minus s x = cond ((eqb s 0 && eqb (x % 15625) 0) && leb (x / 15625) (mostWith minus)) (Angle (x / 15625)) Refused

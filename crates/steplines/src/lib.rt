@@ -7,7 +7,7 @@ ghost use lib.ListN.{length, drop};
 ghost use Rattle.runs.specs.Letters.{letterOf};
 ghost use Rattle.steplines.specs.Fields.{isBlank, fields, begins, isWord};
 ghost use Rattle.steplines.specs.Numbers.{isDigit, allDigits, isNumber, smaller, largest, numberOf, wholeOf, decimalsOf, readingOf, degreesOf};
-ghost use Rattle.steplines.specs.Walk.{belongs, runOf, FieldAt, withDecimal, withDecimals, mostWith};
+ghost use Rattle.steplines.specs.Walk.{belongs, runOf, FieldAt, withDecimal, withDecimals, mostWith, bySix};
 ghost use Rattle.steplines.specs.StepLine.{clockWith, clockOf, stepWith, stepOf, startWith, startOf, meaningOf};
 use arm::Reading;
 use runs::Letter;
@@ -224,19 +224,27 @@ fn most_with(minus: bool) -> u64
     if minus { 0 } else { 5760 }
 }
 
-// One 64th of 10 ^ 6 is 15,625: by so much the first six decimals must divide, and a later one must not add to them.
-fn reading_of(minus: bool, whole: &[u8], decimals: &[u8]) -> Reading
-    requires { ⌜ allDigits (now decimals) ≡ true ⌝ }
-    ensures { λ r. ⌜ r ≡ readingOf minus (now (whole .entry)) (now (decimals .entry)) ⌝ }
+// The angle of x, a number with six decimals, of which 15,625 are one 64th; `after`, what follows the sixth, must be 0.
+fn by_six(minus: bool, after: u32, x: u64) -> Reading
+    ensures { λ r. ⌜ r ≡ bySix minus after x ⌝ }
 {
-    let x = with_six(number_of(whole), decimals);
-    let most = most_with(minus);
-    let exact = (after_six(decimals) == 0) & (x % 15625 == 0);
-    if exact & (x / 15625 <= most) {
+    let exact = (after == 0) & (x % 15625 == 0);
+    if exact & (x / 15625 <= most_with(minus)) {
         Reading::Angle((x / 15625) as u16)
     } else {
         Reading::Refused
     }
+}
+
+fn reading_of(minus: bool, whole: &[u8], decimals: &[u8]) -> Reading
+    requires { ⌜ allDigits (now decimals) ≡ true ⌝ }
+    ensures { λ r. ⌜ r ≡ readingOf minus (now (whole .entry)) (now (decimals .entry)) ⌝ }
+{
+    by_six(
+        minus,
+        after_six(decimals),
+        with_six(number_of(whole), decimals),
+    )
 }
 
 // What the bench gets: the exact degrees, or what it refuses by 12.

@@ -1,10 +1,10 @@
 -- `steplines::after_six` meets its contract. Assumes nothing.
-use Rattle.steplines.proofs.Numbers.{part-rest}
-use mathlib.Core.Path.{_≡_, refl, sym, ap, _∙_}
 use native.Mathlib.Omega.{arith}
-use lib.ListN.{length, drop, drop-of-length-le}
-use Rattle.steplines.specs.Numbers.{valueFrom, numberOf}
+use mathlib.Core.Path.{_∙_}
+use lib.ListN.{drop-of-length-le}
 use borrow.Author.Needs.{needs}
+use Rattle.steplines.specs.Numbers.{valueFrom}
+use Rattle.steplines.proofs.Numbers.{part-rest}
 use Rattle.steplines.proofs.after_six.Statement.{statement}
 use Rattle.steplines.proofs.after_six.Tie as tie
 

@@ -1,6 +1,6 @@
 -- `steplines::begins` meets its contract. Assumes nothing.
-use Rattle.steplines.proofs.Fields.{begins-first, begins-none}
 use borrow.Author.Needs.{needs}
+use Rattle.steplines.proofs.Fields.{begins-first, begins-none}
 use Rattle.steplines.proofs.begins.Statement.{statement}
 use Rattle.steplines.proofs.begins.Tie as tie
 

@@ -1,12 +1,10 @@
 -- `steplines::clock_from` meets its contract. Assumes nothing.
-use mathlib.Core.Path.{_≡_, refl, sym, ap, _∙_}
 use native.Mathlib.Omega.{arith}
-use Prim.Native.Nat.{_≤_}
-use lib.ListN.{length}
+use mathlib.Core.Path.{sym, _∙_}
 use lib.Seq.{length-take-le}
+use borrow.Author.Needs.{needs}
 use Rattle.steplines.proofs.Numbers.{part-rest}
 use Rattle.steplines.proofs.Lines.{whole-within, clock-point, clock-whole}
-use borrow.Author.Needs.{needs}
 use Rattle.steplines.proofs.clock_from.Statement.{statement}
 use Rattle.steplines.proofs.clock_from.Tie as tie
 

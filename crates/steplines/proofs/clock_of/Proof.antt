@@ -1,10 +1,9 @@
 -- `steplines::clock_of` meets its contract. Assumes nothing.
-use mathlib.Core.Path.{_≡_, refl, sym, ap, _∙_}
-use native.Mathlib.Omega.{arith}
+use mathlib.Core.Path.{sym, _∙_}
+use borrow.Author.Needs.{needs}
 use Rattle.steplines.proofs.Fields.{begins-some}
 use Rattle.steplines.proofs.Numbers.{part-rest}
 use Rattle.steplines.proofs.Lines.{clock-minus, clock-plain}
-use borrow.Author.Needs.{needs}
 use Rattle.steplines.proofs.clock_of.Statement.{statement}
 use Rattle.steplines.proofs.clock_of.Tie as tie
 

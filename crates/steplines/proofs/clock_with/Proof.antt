@@ -1,6 +1,6 @@
 -- `steplines::clock_with` meets its contract. Assumes nothing.
-use Rattle.steplines.proofs.Lines.{clock-digits, clock-read, clock-wrong}
 use borrow.Author.Needs.{needs}
+use Rattle.steplines.proofs.Lines.{clock-digits, clock-read, clock-wrong}
 use Rattle.steplines.proofs.clock_with.Statement.{statement}
 use Rattle.steplines.proofs.clock_with.Tie as tie
 
@@ -12,21 +12,27 @@ all-digits-requires-2 c κs = search needs
 
 reading-of-requires : tie.Need-reading-of-requires
 reading-of-requires c κs =
-    let a = c .before .before .before .before .before .args in
-    clock-digits (a .minus) (a .whole .now) (a .decimals .now) _ _ (c .before .before .all-digits .ensures) (c .before .all-digits2 .ensures) (c .if1 .taken)
+    let d = c .before in
+    let a = d .before .before .before .before .args in
+    clock-digits (a .minus) (a .whole .now) (a .decimals .now) _ _ (d .before .all-digits .ensures) (d .all-digits2 .ensures)
+    (c .if1 .taken)
 
 degrees-of-requires : tie.Need-degrees-of-requires
 degrees-of-requires c κs = search needs
 
 returns : tie.Need-returns
 returns c =
-    let a = c .before .before .before .before .before .before .before .args in
-    clock-read (a .minus) (a .whole .now) (a .decimals .now) _ _ (c .before .before .before .before .all-digits .ensures) (c .before .before .before .all-digits2 .ensures) (c .before .before .if1 .taken) _ _ (c .before .reading-of .ensures) (c .degrees-of .ensures)
+    let d = c .before .before .before in
+    let a = d .before .before .before .before .args in
+    clock-read (a .minus) (a .whole .now) (a .decimals .now) _ _ (d .before .all-digits .ensures) (d .all-digits2 .ensures)
+    (c .before .before .if1 .taken) _ _ (c .before .reading-of .ensures) (c .degrees-of .ensures)
 
 returns-2 : tie.Need-returns-2
 returns-2 c =
-    let a = c .before .before .before .before .before .args in
-    clock-wrong (a .minus) (a .whole .now) (a .decimals .now) _ _ (c .before .before .all-digits .ensures) (c .before .all-digits2 .ensures) (c .if1 .left)
+    let d = c .before in
+    let a = d .before .before .before .before .args in
+    clock-wrong (a .minus) (a .whole .now) (a .decimals .now) _ _ (d .before .all-digits .ensures) (d .all-digits2 .ensures)
+    (c .if1 .left)
 
 pub clock-with-spec : {M : Type 1} → statement M
 clock-with-spec =

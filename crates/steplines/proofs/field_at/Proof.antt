@@ -1,6 +1,6 @@
 -- `steplines::field_at` meets its contract. Assumes nothing.
-use Rattle.steplines.proofs.Fields.{found}
 use borrow.Author.Needs.{needs}
+use Rattle.steplines.proofs.Fields.{found}
 use Rattle.steplines.proofs.field_at.Statement.{statement}
 use Rattle.steplines.proofs.field_at.Tie as tie
 

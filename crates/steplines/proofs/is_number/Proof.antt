@@ -1,7 +1,7 @@
 -- `steplines::is_number` meets its contract. Assumes nothing.
 use mathlib.Core.Path.{_∙_}
-use Rattle.steplines.proofs.Numbers.{number-some, number-none}
 use borrow.Author.Needs.{needs}
+use Rattle.steplines.proofs.Numbers.{number-some, number-none}
 use Rattle.steplines.proofs.is_number.Statement.{statement}
 use Rattle.steplines.proofs.is_number.Tie as tie
 

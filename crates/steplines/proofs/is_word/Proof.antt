@@ -1,9 +1,9 @@
 -- `steplines::is_word` meets its contract. Assumes nothing.
-use mathlib.Core.Path.{_∙_}
-use native.Mathlib.Omega.{arith}
-use borrow.Author.Tests.{eq-eqb, ne-eqb, le-leb}
-use lib.ListN.{length}
 use Prim.Native.Nat.{_+_}
+use native.Mathlib.Omega.{arith}
+use mathlib.Core.Path.{_∙_}
+use lib.ListN.{length}
+use borrow.Author.Tests.{eq-eqb, ne-eqb, le-leb}
 use borrow.Author.Needs.{needs}
 use Rattle.steplines.proofs.is_word.Statement.{statement}
 use Rattle.steplines.proofs.is_word.Tie as tie

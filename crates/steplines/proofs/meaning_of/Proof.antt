@@ -1,12 +1,12 @@
 -- `steplines::meaning_of` meets its contract. Assumes nothing.
 use Prim.Native.Nat.{_-_, _<_}
-use lib.ListN.{drop}
-use Rattle.steplines.specs.Fields.{fields}
-use mathlib.Core.Path.{_≡_, refl, sym, ap, _∙_}
 use native.Mathlib.Omega.{arith}
+use mathlib.Core.Path.{sym, _∙_}
+use lib.ListN.{drop}
 use borrow.Author.Tests.{lt-ltb, le-ltb}
-use Rattle.steplines.proofs.Lines.{step-long, meaning-comment, meaning-long, meaning-none, meaning-start, meaning-step, word-length, one-byte}
 use borrow.Author.Needs.{needs}
+use Rattle.steplines.specs.Fields.{fields}
+use Rattle.steplines.proofs.Lines.{step-long, meaning-comment, meaning-long, meaning-none, meaning-start, meaning-step, word-length, one-byte}
 use Rattle.steplines.proofs.meaning_of.Statement.{statement}
 use Rattle.steplines.proofs.meaning_of.Tie as tie
 
@@ -24,8 +24,11 @@ field-at-requires c κs = search needs
 
 returns-3 : tie.Need-returns-3
 returns-3 c =
-    let f = c .before .field-at in
-    meaning-none _ (sym (c .before .before .before .before .begins .ensures) ∙ c .before .before .before .if1 .left) (le-ltb _ _ (c .before .before .if2 .left)) (f .ensures .none (c .if3 .taken))
+    let d = c .before in
+    let f = d .field-at in
+    let plain = sym (d .before .before .before .begins .ensures) ∙ d .before .before .if1 .left in
+    let short = le-ltb _ _ (d .before .if2 .left) in
+    meaning-none _ plain short (f .ensures .none (c .if3 .taken))
 
 slice-aggregate-is-word : tie.Need-slice-aggregate-is-word
 slice-aggregate-is-word c = search needs
@@ -56,25 +59,38 @@ step-of-requires c κs = search needs
 
 returns-4 : tie.Need-returns-4
 returns-4 c =
-    let f = c .before .before .before .before .before .before .field-at in
-    c .start-of .ensures
-    ∙ meaning-start _ (sym (c .before .before .before .before .before .before .before .before .before .begins .ensures) ∙ c .before .before .before .before .before .before .before .before .if1 .left) (le-ltb _ _ (c .before .before .before .before .before .before .before .if2 .left)) _ _ (f .ensures .some (omega (arith, f .ensures .end, c .before .before .before .before .before .if3 .left))) (sym (c .before .before .is-word .ensures) ∙ c .before .if4 .taken)
+    let d = c .before .before .before .before .before .before in
+    let f = d .field-at in
+    let plain = sym (d .before .before .before .begins .ensures) ∙ d .before .before .if1 .left in
+    let short = le-ltb _ _ (d .before .if2 .left) in
+    let p : f .result .from < f .result .end = omega (arith, f .ensures .end, c .before .before .before .before .before .if3 .left) in
+    c .start-of .ensures ∙ meaning-start _ plain short _ _ (f .ensures .some p) (sym (c .before .before .is-word .ensures) ∙ c .before .if4 .taken)
 
 returns-5 : tie.Need-returns-5
 returns-5 c =
-    let f = c .before .before .before .before .before .before .before .before .field-at in
-    let l = c .before .before .before .before .before .before .before .before .before .before .before .before .before .args .line .now in
+    let d = c .before .before .before .before .before .before .before .before in
+    let f = d .field-at in
+    let plain = sym (d .before .before .before .begins .ensures) ∙ d .before .before .if1 .left in
+    let short = le-ltb _ _ (d .before .if2 .left) in
     let p : f .result .from < f .result .end = omega (arith, f .ensures .end, c .before .before .before .before .before .before .before .if3 .left) in
+    let l = d .before .before .before .before .before .args .line .now in
+    let n = f .result .end - f .result .from in
     c .step-of .ensures
-    ∙ rw (← one-byte l (f .result .from) (f .result .end - f .result .from) (omega (arith, f .ensures .within)) (c .before .before .if5 .taken)) (meaning-step _ (sym (c .before .before .before .before .before .before .before .before .before .before .before .begins .ensures) ∙ c .before .before .before .before .before .before .before .before .before .before .if1 .left) (le-ltb _ _ (c .before .before .before .before .before .before .before .before .before .if2 .left)) _ _ (f .ensures .some p) (sym (c .before .before .before .before .is-word .ensures) ∙ c .before .before .before .if4 .left))
+    ∙ rw (← one-byte l (f .result .from) n (omega (arith, f .ensures .within)) (c .before .before .if5 .taken))
+    (meaning-step _ plain short _ _ (f .ensures .some p) (sym (c .before .before .before .before .is-word .ensures) ∙ c .before .before .before .if4 .left))
 
 returns-6 : tie.Need-returns-6
 returns-6 c =
-    let f = c .before .before .before .before .before .before .field-at in
-    let l = c .before .before .before .before .before .before .before .before .before .before .before .args .line .now in
+    let d = c .before .before .before .before .before .before in
+    let f = d .field-at in
+    let plain = sym (d .before .before .before .begins .ensures) ∙ d .before .before .if1 .left in
+    let short = le-ltb _ _ (d .before .if2 .left) in
     let p : f .result .from < f .result .end = omega (arith, f .ensures .end, c .before .before .before .before .before .if3 .left) in
-    step-long _ (fields (drop (f .result .end) l)) (λ z. c .if5 .left (sym (word-length l (f .result .from) (f .result .end - f .result .from) (omega (arith, f .ensures .within))) ∙ z))
-    ∙ meaning-step _ (sym (c .before .before .before .before .before .before .before .before .before .begins .ensures) ∙ c .before .before .before .before .before .before .before .before .if1 .left) (le-ltb _ _ (c .before .before .before .before .before .before .before .if2 .left)) _ _ (f .ensures .some p) (sym (c .before .before .is-word .ensures) ∙ c .before .if4 .left)
+    let l = d .before .before .before .before .before .args .line .now in
+    let n = f .result .end - f .result .from in
+    let bytes = word-length l (f .result .from) n (omega (arith, f .ensures .within)) in
+    step-long _ (fields (drop (f .result .end) l)) (λ z. c .if5 .left (sym bytes ∙ z))
+    ∙ meaning-step _ plain short _ _ (f .ensures .some p) (sym (c .before .before .is-word .ensures) ∙ c .before .if4 .left)
 
 pub meaning-of-spec : {M : Type 1} → statement M
 meaning-of-spec =

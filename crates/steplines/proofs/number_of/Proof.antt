@@ -1,7 +1,7 @@
 -- `steplines::number_of` meets its contract: n is the value of the digits before i, cut at the largest. Assumes nothing.
 use Prim.Native.Nat.{_+_, _-_, _*_, _≤_}
+use mathlib.Core.Path.{_≡_, refl, sym, _∙_}
 use lib.ListN.{length, drop, getD}
-use mathlib.Core.Path.{_≡_, refl, sym, ap, _∙_}
 use borrow.Author.Needs.{needs}
 use Rattle.steplines.specs.Numbers.{valueFrom, smaller, largest, numberOf}
 use Rattle.steplines.proofs.Numbers.{smaller-most, number-next, number-past}
@@ -32,8 +32,10 @@ loop-less c = search needs
 loop-again : tie.Need-loop-again Inv-loop μ-loop
 loop-again c =
     let k = c .before .before .before .loop in
-    let l = c .before .before .before .before .before .args .digits .now in
-    (rw (c .with-digit .ensures) (smaller-most (k .n * 10 + (getD l (k .i) 0 - 48)) largest), rw (c .with-digit .ensures) (sym (number-next (k .n) l (k .i) (c .before .before .loop-test .taken)) ∙ k .inv .1))
+    let l = c .before .before .before .before .before .args .digits .now in (
+      rw (c .with-digit .ensures) (smaller-most (k .n * 10 + (getD l (k .i) 0 - 48)) largest),
+      rw (c .with-digit .ensures) (sym (number-next (k .n) l (k .i) (c .before .before .loop-test .taken)) ∙ k .inv .1),
+    )
 
 returns : tie.Need-returns Inv-loop μ-loop
 returns c = let k = c .before .loop in sym (number-past (k .n) _ (k .i) (c .loop-test .left) (k .inv .0)) ∙ k .inv .1

@@ -1,7 +1,7 @@
 -- `steplines::start_of` meets its contract: what is left to do with the fields from `at` on, after `count` of them which gave s. Assumes nothing.
-use mathlib.Core.Path.{_≡_, refl, sym, ap, _∙_}
+use Prim.Native.Nat.{_-_, _≤_}
 use native.Mathlib.Omega.{arith}
-use Prim.Native.Nat.{_+_, _-_, _≤_}
+use mathlib.Core.Path.{_≡_, sym, _∙_}
 use lib.ListN.{length, drop}
 use borrow.Author.Needs.{needs}
 use Rattle.steplines.specs.Fields.{fields}
@@ -65,8 +65,12 @@ loop-again : tie.Need-loop-again Inv-loop μ-loop
 loop-again c =
     let k = c .before .before .before .before .before .before .before .loop in
     let f = c .before .before .before .before .before .before .field-at in
-    let p = f .ensures .some (omega (arith, f .ensures .end, c .before .before .before .before .before .if1 .left)) in
-    (omega (arith, f .ensures .from, f .ensures .end, c .before .before .before .before .before .if1 .left, k .inv .0), f .ensures .within, rw (c .with-setting .ensures, c .before .number-of .ensures) (sym (start-next (k .count) (k .s) _ _ _ p (sym (c .before .before .before .is-number .ensures) ∙ c .before .before .if2 .taken)) ∙ k .inv .2))
+    let p = f .ensures .some (omega (arith, f .ensures .end, c .before .before .before .before .before .if1 .left)) in (
+      omega (arith, f .ensures .from, f .ensures .end, c .before .before .before .before .before .if1 .left, k .inv .0),
+      f .ensures .within,
+      rw (c .with-setting .ensures, c .before .number-of .ensures)
+          (sym (start-next (k .count) (k .s) _ _ _ p (sym (c .before .before .before .is-number .ensures) ∙ c .before .before .if2 .taken)) ∙ k .inv .2),
+    )
 
 returns-2 : tie.Need-returns-2 Inv-loop μ-loop
 returns-2 c =

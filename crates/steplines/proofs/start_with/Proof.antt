@@ -1,7 +1,7 @@
 -- `steplines::start_with` meets its contract. Assumes nothing.
-use borrow.Author.Tests.{eq-eqb, ne-eqb, le-leb, lt-leb, lt-ltb, le-ltb}
-use Rattle.steplines.specs.StepLine.{startWith}
+use borrow.Author.Tests.{eq-eqb, ne-eqb}
 use borrow.Author.Needs.{needs}
+use Rattle.steplines.specs.StepLine.{startWith}
 use Rattle.steplines.proofs.start_with.Statement.{statement}
 use Rattle.steplines.proofs.start_with.Tie as tie
 

@@ -1,8 +1,8 @@
 -- `steplines::step_of` meets its contract. Assumes nothing.
-use mathlib.Core.Path.{_≡_, refl, sym, ap, _∙_}
 use native.Mathlib.Omega.{arith}
-use Rattle.steplines.proofs.Lines.{step-none, step-one, step-more}
+use mathlib.Core.Path.{_∙_}
 use borrow.Author.Needs.{needs}
+use Rattle.steplines.proofs.Lines.{step-none, step-one, step-more}
 use Rattle.steplines.proofs.step_of.Statement.{statement}
 use Rattle.steplines.proofs.step_of.Tie as tie
 
@@ -31,14 +31,15 @@ returns-2 : tie.Need-returns-2
 returns-2 c =
     let one = c .before .before .before .before .before .before .field-at in
     let two = c .before .before .before .before .field-at2 in
-    c .step-with .ensures
-    ∙ step-one _ _ _ _ (one .ensures .some (omega (arith, one .ensures .end, c .before .before .before .before .before .if1 .left))) (two .ensures .none (c .before .before .if2 .taken))
+    let p = one .ensures .some (omega (arith, one .ensures .end, c .before .before .before .before .before .if1 .left)) in
+    c .step-with .ensures ∙ step-one _ _ _ _ p (two .ensures .none (c .before .before .if2 .taken))
 
 returns-3 : tie.Need-returns-3
 returns-3 c =
     let one = c .before .before .before .before .field-at in
     let two = c .before .before .field-at2 in
-    step-more _ _ _ _ (one .ensures .some (omega (arith, one .ensures .end, c .before .before .before .if1 .left))) _ _ (two .ensures .some (omega (arith, two .ensures .end, c .if2 .left)))
+    let p = one .ensures .some (omega (arith, one .ensures .end, c .before .before .before .if1 .left)) in
+    step-more _ _ _ _ p _ _ (two .ensures .some (omega (arith, two .ensures .end, c .if2 .left)))
 
 pub step-of-spec : {M : Type 1} → statement M
 step-of-spec =

@@ -1,5 +1,5 @@
 -- `steplines::step_with` meets its contract. Assumes nothing.
-use mathlib.Core.Path.{_≡_, refl, sym, ap, _∙_}
+use mathlib.Core.Path.{_∙_}
 use borrow.Author.Needs.{needs}
 use Rattle.steplines.proofs.step_with.Statement.{statement}
 use Rattle.steplines.proofs.step_with.Tie as tie
@@ -33,11 +33,21 @@ enum-told-3 c = search needs
 
 returns : tie.Need-returns
 returns c =
-    rw (← (c .before .before .before .before .before .before .before .letter-of .ensures), c .before .before .before .before .before .stands-for .given .1, ← (c .before .before .before .is-number .ensures), c .before .before .if1 .taken, c .event-step .ensures, c .before .number-of .ensures)
+    let d = c .before .before in
+    let e = d .before .before .before in
+    rw (
+      ← (e .before .before .letter-of .ensures),
+      e .stands-for .given .1,
+      ← (d .before .is-number .ensures),
+      d .if1 .taken,
+      c .event-step .ensures,
+      c .before .number-of .ensures,
+    )
 
 returns-2 : tie.Need-returns-2
 returns-2 c =
-    rw (← (c .before .before .before .before .before .letter-of .ensures), c .before .before .before .stands-for .given .1, ← (c .before .is-number .ensures), c .if1 .left)
+    let e = c .before .before .before in
+    rw (← (e .before .before .letter-of .ensures), e .stands-for .given .1, ← (c .before .is-number .ensures), c .if1 .left)
 
 returns-3 : tie.Need-returns-3
 returns-3 c = c .clock-of .ensures ∙ rw (← (c .before .before .before .letter-of .ensures), c .before .enum-told .given .1)

@@ -1,10 +1,9 @@
 -- `steplines::with_decimal` meets its contract. Assumes nothing.
-use Prim.Native.Nat.{_*_, _+_, _-_}
-use mathlib.Core.Path.{_≡_, refl, sym, ap, _∙_}
+use Prim.Native.Nat.{_-_}
 use native.Mathlib.Omega.{arith}
-use lib.ListN.{getD, List·getD-eq-default}
-use Rattle.steplines.proofs.Numbers.{getD-any}
+use lib.ListN.{List·getD-eq-default}
 use borrow.Author.Needs.{needs}
+use Rattle.steplines.proofs.Numbers.{getD-any}
 use Rattle.steplines.proofs.with_decimal.Statement.{statement}
 use Rattle.steplines.proofs.with_decimal.Tie as tie
 
@@ -24,11 +23,14 @@ mul-result-2 : tie.Need-mul-result-2
 mul-result-2 c = search needs
 
 returns : tie.Need-returns
-returns c =
-    (rw (c .figure .ensures, getD-any _ _ 48 (c .before .before .if1 .taken)), omega (arith, c .figure .ensures, c .before .shared-slice-known2 .given (c .before .before .before .before .args .i)))
+returns c = (
+  rw (c .figure .ensures, getD-any _ _ 48 (c .before .before .if1 .taken)),
+  omega (arith, c .figure .ensures, c .before .shared-slice-known2 .given (c .before .before .before .before .args .i)),
+)
 
 returns-2 : tie.Need-returns-2
-returns-2 c = (rw (List·getD-eq-default (c .before .before .args .decimals .now) 48 (c .if1 .left)) (omega arith), omega arith)
+returns-2 c =
+    (rw (List·getD-eq-default (c .before .before .args .decimals .now) 48 (c .if1 .left)) (omega arith), omega arith)
 
 pub with-decimal-spec : {M : Type 1} → statement M
 with-decimal-spec =

@@ -1,10 +1,10 @@
 -- `steplines::with_digit` meets its contract. Assumes nothing.
 use Prim.Native.Nat.{ℕ, _*_, _+_, _-_}
-use mathlib.Core.Path.{_≡_, refl, sym, ap, _∙_}
 use native.Mathlib.Omega.{arith}
+use mathlib.Core.Path.{sym, ap, _∙_}
+use borrow.Author.Needs.{needs}
 use Rattle.steplines.specs.Numbers.{largest}
 use Rattle.steplines.proofs.Numbers.{smaller-is, smaller-not}
-use borrow.Author.Needs.{needs}
 use Rattle.steplines.proofs.with_digit.Statement.{statement}
 use Rattle.steplines.proofs.with_digit.Tie as tie
 

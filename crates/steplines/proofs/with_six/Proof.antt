@@ -1,6 +1,6 @@
 -- `steplines::with_six` meets its contract. Assumes nothing.
-use Rattle.steplines.specs.Walk.{withDecimals}
 use borrow.Author.Needs.{needs}
+use Rattle.steplines.specs.Walk.{withDecimals}
 use Rattle.steplines.proofs.with_six.Statement.{statement}
 use Rattle.steplines.proofs.with_six.Tie as tie
 
@@ -25,7 +25,15 @@ with-decimal-requires-6 c κs = search needs
 returns : tie.Need-returns
 unfolding withDecimals
 returns c =
-    rw (c .with-decimal6 .ensures .0, c .before .with-decimal5 .ensures .0, c .before .before .with-decimal4 .ensures .0, c .before .before .before .with-decimal3 .ensures .0, c .before .before .before .before .with-decimal2 .ensures .0, c .before .before .before .before .before .with-decimal .ensures .0)
+    let d = c .before .before .before in
+    rw (
+      c .with-decimal6 .ensures .0,
+      c .before .with-decimal5 .ensures .0,
+      c .before .before .with-decimal4 .ensures .0,
+      d .with-decimal3 .ensures .0,
+      d .before .with-decimal2 .ensures .0,
+      d .before .before .with-decimal .ensures .0,
+    )
 
 pub with-six-spec : {M : Type 1} → statement M
 with-six-spec =
