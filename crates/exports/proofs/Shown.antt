@@ -1,10 +1,8 @@
--- A run after which something of the bench is written: what the number of its verdict says, and two values written. Assumes nothing.
-use Prim.Native.Nat.{ℕ, zero, suc, _≤_}
-use native.Mathlib.Omega.{arith}
+-- A run after which something of the bench is written: what the number of its verdict says. Assumes nothing.
+use Prim.Native.Nat.{ℕ, zero, suc}
 use mathlib.Core.Path.{_≡_, refl, sym, ap, _∙_}
 use mathlib.Core.Bool.{Bool, true}
-use mathlib.Core.List.{List, [], _∷_}
-use lib.ListN.{length, set, length-set}
+use mathlib.Core.List.{List}
 use Rattle.settings.specs.declared.Settings.{Settings}
 use Rattle.settings.specs.Settings.{numberOf}
 use Rattle.bench.specs.declared.Bench.{Bench}
@@ -14,7 +12,6 @@ use Rattle.runs.specs.declared.Finished.{Finished}
 use Rattle.runs.specs.Steps.{benchAfter}
 use Rattle.runs.specs.Run.{over, Told, runRefusalWith, unlessRefused, finishedBy, Ran}
 use Rattle.runs.proofs.Running.{with-none}
-use Rattle.runs.proofs.Slices.{filled-none, filled-next, filled-all}
 use Rattle.exports.specs.Exports.{Answered}
 use Rattle.exports.proofs.Laws.{answered-run}
 
@@ -50,9 +47,3 @@ module _ (s : Settings) (letters : List ℕ) (numbers readings answers orders na
           go : (k : ℕ) → (k ≡ 0 → ⊥) → was ≡ unlessRefused k value was
           go zero h = absurd (h refl)
           go (suc k) h = refl
-
--- two values in the first places
-pub two-over : {A : Type 0} (old : List A) (x y : A) → 2 ≤ length old → set (set old 0 x) 1 y ≡ over (x ∷ y ∷ []) old
-two-over old x y h =
-    filled-all old _ 2 _ (rw (length-set, length-set) h)
-    (filled-next old (set old 0 x) 1 y [] _ (rw length-set (omega arith)) (filled-next old old 0 x _ _ (omega arith) (filled-none old _)))

@@ -10,7 +10,8 @@ use Rattle.trains.specs.Trains.{since}
 use Rattle.trains.specs.Table.{shownAt}
 use Rattle.runs.specs.Run.{over}
 use Rattle.runs.proofs.Slices.{Filled, filled-none, filled-next, filled-all}
-use Rattle.exports.specs.State.{standingNumber, kindNumber, trainNumbers}
+use Rattle.stepwise.specs.Words.{standingNumber}
+use Rattle.exports.specs.State.{kindNumber, trainNumbers}
 
 -- the first four places
 pub four-filled : (old rest : List ℕ) (a b c d : ℕ) → 4 ≤ length old → Filled old (set (set (set (set old 0 a) 1 b) 2 c) 3 d) 4 rest (a ∷ b ∷ c ∷ d ∷ rest)

@@ -1,5 +1,5 @@
 -- What the bench after a list of steps shows: its pose in degrees; by numbers its gate, and how many trains are present (document 01,
--- "Clock and arm" and "Cabinet"). Decides beyond it: the gate's values are numbered as document 01 names them. Assumes nothing.
+-- "Clock and arm" and "Cabinet"). Assumes nothing.
 use Prim.Native.Nat.{ℕ}
 use mathlib.Core.Path.{_≡_}
 use mathlib.Core.Bool.{_&&_}
@@ -7,35 +7,18 @@ use mathlib.Core.List.{List, [], _∷_}
 use lib.Dec.{leb}
 use lib.Ieee.{Float}
 use Rattle.settings.specs.declared.Settings.{Settings}
-use Rattle.arm.specs.declared.Pose.{Pose}
-use Rattle.arm.specs.declared.Gate.{Gate}
-use Rattle.arm.specs.declared.Gate.the-variants.{Up, Down, Falling, Rising}
-use Rattle.arm.specs.Shown.{poseOf, gateOf}
 use Rattle.trains.specs.Table.{presentIn}
 use Rattle.bench.specs.declared.Bench.{Bench}
-use Rattle.bench.specs.Bench.{commandOf, armOf, freshBench}
+use Rattle.bench.specs.Bench.{freshBench}
 use Rattle.runs.specs.declared.Step.{Step}
 use Rattle.runs.specs.Steps.{benchAfter}
 use Rattle.runs.specs.Run.{Told, runRefusalWith, unlessRefused}
+use Rattle.stepwise.specs.Shown.{posed, gateNumber, gateIn}
 use Rattle.exports.specs.Exports.{Answered}
-
--- the angle, and its change over the last clock step
-abbrev pub poseNumbers : Pose → List Float
-poseNumbers p = p .angle ∷ p .change ∷ []
-
-abbrev pub posed : Bench → List Float
-posed b = poseNumbers (poseOf (b .head .motion .previous) (armOf b))
-
--- 0 up, 1 down, 2 falling, 3 rising
-abbrev pub gateNumber : Gate → ℕ
-gateNumber Up = 0
-gateNumber Down = 1
-gateNumber (Falling angle) = 2
-gateNumber (Rising angle) = 3
 
 -- the gate, and the trains present
 abbrev pub looks : Bench → List ℕ
-looks b = gateNumber (gateOf (commandOf b) (armOf b)) ∷ presentIn (b .table) ∷ []
+looks b = gateNumber (gateIn b) ∷ presentIn (b .table) ∷ []
 
 -- the number that refuses a run after which the bench is looked at: 14 where there are fewer than two places in either
 abbrev pub lookRefusal : Settings → List ℕ → ℕ → ℕ → ℕ → ℕ → ℕ → ℕ → ℕ → ℕ

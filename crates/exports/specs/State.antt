@@ -5,13 +5,7 @@ use mathlib.Core.Path.{_≡_}
 use mathlib.Core.Bool.{cond}
 use mathlib.Core.List.{List, [], _∷_}
 use lib.Dec.{leb}
-use Rattle.settings.specs.declared.Kind.{Kind}
-use Rattle.settings.specs.declared.Kind.the-variants.{Loaded, Empty, Engine, RailCar}
 use Rattle.settings.specs.declared.Settings.{Settings}
-use Rattle.arm.specs.declared.Command.{Command}
-use Rattle.arm.specs.declared.Command.the-variants.{Up, Down}
-use Rattle.trains.specs.declared.Standing.{Standing}
-use Rattle.trains.specs.declared.Standing.the-variants.{Away, Coming, Inside}
 use Rattle.trains.specs.declared.Entry.{Entry}
 use Rattle.trains.specs.declared.Table.{Table}
 use Rattle.trains.specs.Trains.{isPresent, since}
@@ -21,26 +15,10 @@ use Rattle.bench.specs.Bench.{nowOf, commandOf, armOf, freshBench}
 use Rattle.runs.specs.declared.Step.{Step}
 use Rattle.runs.specs.Steps.{benchAfter}
 use Rattle.runs.specs.Run.{Told, runRefusalWith, unlessRefused}
+use Rattle.stepwise.specs.Words.{commandNumber, kindAs, standingNumber}
 use Rattle.exports.specs.Exports.{Answered}
 
--- 0 up, 1 down
-abbrev pub commandNumber : Command → ℕ
-commandNumber Up = 0
-commandNumber Down = 1
-
--- 0 away, 1 coming, 2 inside
-abbrev pub standingNumber : Standing → ℕ
-standingNumber Away = 0
-standingNumber (Coming a) = 1
-standingNumber (Inside a) = 2
-
 -- the kind of a train that is present, 1 to 4; 0 where it is away
-abbrev pub kindAs : Kind → ℕ
-kindAs Loaded = 1
-kindAs Empty = 2
-kindAs Engine = 3
-kindAs RailCar = 4
-
 abbrev pub kindNumber : Entry → ℕ
 kindNumber e = cond (isPresent (e .standing)) (kindAs (e .kind)) 0
 

@@ -14,15 +14,18 @@ ghost use Rattle.stretches.specs.declared.Sort.the-variants.{Lowered, Occupied}
 ghost use Rattle.stretches.specs.Walk.{startCursor, nothingFrom, stretchesAhead};
 ghost use Rattle.stretches.specs.Figures.{total};
 ghost use Rattle.report.specs.Report.{reportOf};
+ghost use Rattle.stepwise.specs.Calls.{called};
+ghost use Rattle.stepwise.specs.CabinetCalls as cabinetCall;
+ghost use Rattle.stepwise.specs.CabinetCalls.{cabinetStarted, cabinetCalled};
+ghost use Rattle.stepwise.specs.BenchCalls as benchCall;
+ghost use Rattle.stepwise.specs.BenchCalls.{benchStarted, benchCalled};
+ghost use Rattle.stepwise.specs.Shown.{posed, showed, poseShown, gateShown};
 ghost use Rattle.exports.specs.Exports.{Answered, CabinetAnswered, RecordAnswered, packed, packConverted, ConvertAnswered, Reports};
-ghost use Rattle.exports.specs.State.{commandNumber, standingNumber, kindAs, kindNumber, benchNumbers, stateRefusal, StateAnswered};
-ghost use Rattle.exports.specs.Look.{posed, gateNumber, looks, lookRefusal, LookAnswered};
+ghost use Rattle.exports.specs.State.{kindNumber, benchNumbers, stateRefusal, StateAnswered};
+ghost use Rattle.exports.specs.Look.{looks, lookRefusal, LookAnswered};
 ghost use Rattle.exports.specs.Places.{cursorOf, cursorIn, flag, foundNumber, nextNumbers, nextFrom, Placed};
-use arm::Command;
-use arm::Gate;
 use bench::Bench;
 use converter::Converted;
-use settings::Kind;
 use settings::Verdict;
 use stretches::Cursor;
 use stretches::Next;
@@ -55,38 +58,6 @@ pub extern "C" fn weqhaso_run(
     settings::number(v)
 }
 
-// 0 up, 1 down.
-fn command_number(command: Command) -> u32
-    ensures { λ r. ⌜ r ≡ commandNumber command ⌝ }
-{
-    match command {
-        Command::Up => 0,
-        Command::Down => 1,
-    }
-}
-
-// 0 away, 1 coming, 2 inside.
-fn standing_number(standing: Standing) -> u32
-    ensures { λ r. ⌜ r ≡ standingNumber standing ⌝ }
-{
-    match standing {
-        Standing::Away => 0,
-        Standing::Coming(_) => 1,
-        Standing::Inside(_) => 2,
-    }
-}
-
-fn kind_as(kind: Kind) -> u32
-    ensures { λ r. ⌜ r ≡ kindAs kind ⌝ }
-{
-    match kind {
-        Kind::Loaded => 1,
-        Kind::Empty => 2,
-        Kind::Engine => 3,
-        Kind::RailCar => 4,
-    }
-}
-
 // The kind of a train that is present, 1 to 4; 0 where it is away.
 fn kind_number(e: Entry) -> u32
     ensures { λ r. ⌜ r ≡ kindNumber e ⌝ }
@@ -95,8 +66,8 @@ fn kind_number(e: Entry) -> u32
     let kind = e.kind;
     match standing {
         Standing::Away => 0,
-        Standing::Coming(_) => kind_as(kind),
-        Standing::Inside(_) => kind_as(kind),
+        Standing::Coming(_) => stepwise::kind_as(kind),
+        Standing::Inside(_) => stepwise::kind_as(kind),
     }
 }
 
@@ -113,7 +84,7 @@ fn write_bench(b: Bench, state: &mut [u32])
     state[0] = control.now;
     state[1] = motion.angle as u32;
     state[2] = motion.previous as u32;
-    state[3] = command_number(command);
+    state[3] = stepwise::command_number(command);
     let mut place: usize = 0;
     let mut i: usize = 4;
     while place < 96 {
@@ -121,7 +92,7 @@ fn write_bench(b: Bench, state: &mut [u32])
         let standing = e.standing;
         state[i] = e.number as u32;
         state[i + 1] = kind_number(e);
-        state[i + 2] = standing_number(standing);
+        state[i + 2] = stepwise::standing_number(standing);
         state[i + 3] = trains::since_of(standing);
         place = place + 1;
         i = i + 4;
@@ -160,18 +131,6 @@ pub extern "C" fn weqhaso_state(
     k
 }
 
-// 0 up, 1 down, 2 falling, 3 rising.
-fn gate_number(gate: Gate) -> u32
-    ensures { λ r. ⌜ r ≡ gateNumber gate ⌝ }
-{
-    match gate {
-        Gate::Up => 0,
-        Gate::Down => 1,
-        Gate::Falling(_) => 2,
-        Gate::Rising(_) => 3,
-    }
-}
-
 // What the bench shows: the pose, then its gate by number and the trains present.
 fn write_look(b: Bench, pose: &mut [f32], look: &mut [u32])
     requires { ⌜ (2 ≤ length (now pose)) × (2 ≤ length (now look)) ⌝ }
@@ -182,7 +141,7 @@ fn write_look(b: Bench, pose: &mut [f32], look: &mut [u32])
     let table = b.table;
     pose[0] = shown.angle;
     pose[1] = shown.change;
-    look[0] = gate_number(gate);
+    look[0] = stepwise::gate_number(gate);
     look[1] = table.present();
 }
 
@@ -240,6 +199,98 @@ pub extern "C" fn weqhaso_cabinet(
     let r = alone::run(s, letters, numbers, answers, orders, named);
     let v = r.verdict;
     settings::number(v)
+}
+
+// ---- a cabinet and a bench in words that the caller lends, one call a step
+
+// A fresh cabinet under the settings, thirteen values in their order, in 405 words (`stepwise::cabinet_start`): the refusal number, 1 to 4, or 14 last,
+// where there are not 405 words; 0 where it is taken.
+#[no_mangle]
+pub extern "C" fn weqhaso_cabinet_start(words: &mut [u32], values: &[u32]) -> u64
+    ensures { λ r. ⌜ called r (now (words .exit)) ≡ cabinetStarted (now (words .entry)) (settingsOf (now (values .entry))) ⌝ }
+{
+    stepwise::cabinet_start(words, values)
+}
+
+// A train approaches it, by the record's letter of its kind (`stepwise::cabinet_approach`): the refusal number, 256 times the letter of the command
+// given (D, U or 0), and 65,536 times the train of a lower. 15, 5, 6 and 17; 14 last. A refusal keeps every word.
+#[no_mangle]
+pub extern "C" fn weqhaso_cabinet_approach(words: &mut [u32], letter: u8, train: u32) -> u64
+    ensures { λ r. ⌜ called r (now (words .exit)) ≡ cabinetCalled (now (words .entry)) (cabinetCall.approaching letter train) ⌝ }
+{
+    stepwise::cabinet_approach(words, letter, train)
+}
+
+// A present train leaves it (`stepwise::cabinet_leave`), answered in the same way. 5 and 9; 14 last.
+#[no_mangle]
+pub extern "C" fn weqhaso_cabinet_leave(words: &mut [u32], train: u32) -> u64
+    ensures { λ r. ⌜ called r (now (words .exit)) ≡ cabinetCalled (now (words .entry)) (cabinetCall.leaving train) ⌝ }
+{
+    stepwise::cabinet_leave(words, train)
+}
+
+// Its clock moves by one tick (`stepwise::cabinet_clock`). 10; 14 last.
+#[no_mangle]
+pub extern "C" fn weqhaso_cabinet_clock(words: &mut [u32]) -> u64
+    ensures { λ r. ⌜ called r (now (words .exit)) ≡ cabinetCalled (now (words .entry)) cabinetCall.ticking ⌝ }
+{
+    stepwise::cabinet_clock(words)
+}
+
+// A fresh bench under the settings, in 411 words (`stepwise::bench_start`), answered as the cabinet's start.
+#[no_mangle]
+pub extern "C" fn weqhaso_bench_start(words: &mut [u32], values: &[u32]) -> u64
+    ensures { λ r. ⌜ called r (now (words .exit)) ≡ benchStarted (now (words .entry)) (settingsOf (now (values .entry))) ⌝ }
+{
+    stepwise::bench_start(words, values)
+}
+
+// A train approaches it (`stepwise::bench_approach`), by the record's letter of its kind, answered as the cabinet's steps. 15, 5, 6 and 17; 14 last.
+#[no_mangle]
+pub extern "C" fn weqhaso_bench_approach(words: &mut [u32], letter: u8, train: u32) -> u64
+    ensures { λ r. ⌜ called r (now (words .exit)) ≡ benchCalled (now (words .entry)) (benchCall.approaching letter train) ⌝ }
+{
+    stepwise::bench_approach(words, letter, train)
+}
+
+// A coming train goes inside (`stepwise::bench_occupy`). 5, 7 and 8; 14 last.
+#[no_mangle]
+pub extern "C" fn weqhaso_bench_occupy(words: &mut [u32], train: u32) -> u64
+    ensures { λ r. ⌜ called r (now (words .exit)) ≡ benchCalled (now (words .entry)) (benchCall.occupying train) ⌝ }
+{
+    stepwise::bench_occupy(words, train)
+}
+
+// A train inside leaves (`stepwise::bench_leave`). 5 and 9; 14 last.
+#[no_mangle]
+pub extern "C" fn weqhaso_bench_leave(words: &mut [u32], train: u32) -> u64
+    ensures { λ r. ⌜ called r (now (words .exit)) ≡ benchCalled (now (words .entry)) (benchCall.leaving train) ⌝ }
+{
+    stepwise::bench_leave(words, train)
+}
+
+// Its clock moves by one tick and brings a reading in degrees (`stepwise::bench_clock`). 10 to 13; 14 last.
+#[no_mangle]
+pub extern "C" fn weqhaso_bench_clock(words: &mut [u32], reading: f32) -> u64
+    ensures { λ r. ⌜ called r (now (words .exit)) ≡ benchCalled (now (words .entry)) (benchCall.ticking reading) ⌝ }
+{
+    stepwise::bench_clock(words, reading)
+}
+
+// Its pose in the first two places (`stepwise::bench_pose`): the angle and its change over the last clock step, in degrees. 0 or 14.
+#[no_mangle]
+pub extern "C" fn weqhaso_bench_pose(words: &[u32], pose: &mut [f32]) -> u64
+    ensures { λ r. ⌜ showed r (now (pose .exit)) ≡ poseShown (now (words .entry)) (now (pose .entry)) ⌝ }
+{
+    stepwise::bench_pose(words, pose)
+}
+
+// 256 times its gate (`stepwise::bench_gate`), 0 up, 1 down, 2 falling, 3 rising, and the angle of one that falls or rises in the first place. 14 otherwise.
+#[no_mangle]
+pub extern "C" fn weqhaso_bench_gate(words: &[u32], angle: &mut [f32]) -> u64
+    ensures { λ r. ⌜ showed r (now (angle .exit)) ≡ gateShown (now (words .entry)) (now (angle .entry)) ⌝ }
+{
+    stepwise::bench_gate(words, angle)
 }
 
 // A recorder under the settings, taken through a list of steps in the lent record (`recording::record_run`): 256 times the bytes of the

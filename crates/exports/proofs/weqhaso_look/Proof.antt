@@ -3,7 +3,8 @@ use lib.Dec.{leb}
 use lib.ListN.{length}
 use borrow.Author.Tests.{leb-true}
 use Rattle.settings.proofs.Laws.{both}
-use Rattle.exports.specs.Look.{posed, looks}
+use Rattle.stepwise.specs.Shown.{posed}
+use Rattle.exports.specs.Look.{looks}
 use Rattle.exports.proofs.Shown.{answered, space-there, shown, unshown}
 use borrow.Author.Needs.{needs}
 use Rattle.exports.proofs.weqhaso_look.Statement.{statement}

@@ -1,7 +1,7 @@
 -- `exports::write_look` meets its contract: two places and two more. Assumes nothing.
 use mathlib.Core.Path.{ap, _∙_}
-use Rattle.exports.specs.Look.{gateNumber}
-use Rattle.exports.proofs.Shown.{two-over}
+use Rattle.stepwise.specs.Shown.{gateNumber}
+use Rattle.stepwise.proofs.Shown.{two-over}
 use borrow.Author.Needs.{needs}
 use Rattle.exports.proofs.write_look.Statement.{statement}
 use Rattle.exports.proofs.write_look.Tie as tie

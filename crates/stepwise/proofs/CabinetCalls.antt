@@ -1,0 +1,138 @@
+-- The calls on a cabinet, from what its own steps give. Assumes nothing.
+use Prim.Native.Nat.{ℕ, zero, suc, _<_}
+use native.Mathlib.Omega.{arith}
+use mathlib.Core.Path.{_≡_, refl, sym, ap, ap₂, _∙_}
+use mathlib.Core.List.{List}
+use mathlib.Core.Logic.{inl}
+use lib.Dec.{eqb}
+use lib.ListN.{length}
+use borrow.Author.Tests.{leb-false}
+use Rattle.lines.specs.Bytes.{splice}
+use Rattle.settings.specs.declared.Kind.{Kind}
+use Rattle.settings.specs.declared.Settings.{Settings}
+use Rattle.settings.specs.declared.Ticks.{Ticks}
+use Rattle.settings.specs.Refusal.{unless}
+use Rattle.settings.specs.Values.{settingsOf}
+use Rattle.trains.specs.declared.First.{First}
+use Rattle.trains.specs.declared.Found.{Found}
+use Rattle.trains.specs.declared.Table.{Table}
+use Rattle.trains.specs.Table.{freshTable, standingOf, noPlace, placeFor, foundFor}
+use Rattle.trains.proofs.Laws.{place-room}
+use Rattle.cabinet.specs.declared.Order.{Order}
+use Rattle.cabinet.specs.declared.Answer.the-variants.{Taken, Refused}
+use Rattle.cabinet.specs.declared.Control.{Control}
+use Rattle.cabinet.specs.declared.Controlled.{Controlled}
+use Rattle.cabinet.specs.declared.Cabinet.{Cabinet}
+use Rattle.cabinet.specs.declared.Stepped.{Stepped}
+use Rattle.cabinet.specs.Cabinet.{numberOf, freshCabinet, started, refused, approachRefusal, leaveRefusal, ticked, approached, left, clocked}
+use Rattle.cabinet.proofs.Laws.{approach-says, leave-says}
+use Rattle.runs.specs.Claims as heard
+use Rattle.runs.specs.Letters.{letterOf}
+use Rattle.runs.specs.Run.{orElse, orFull}
+use Rattle.stepwise.specs.declared.Named.{Named}
+use Rattle.stepwise.specs.declared.Named.the-variants.{As, Nothing}
+use Rattle.stepwise.specs.Words.{soonestAt, firstIn, tableFrom, settingsFrom, ticksFrom, controlFrom, cabinetFrom, cabinetWords}
+use Rattle.stepwise.specs.Calls.{Called, called, packedAnswer, answered, trainNumber, withControl, kindNamed}
+use Rattle.stepwise.specs.CabinetCalls.{cabinetStarted, cabinetTrain, cabinetHears, approaching, leaving, ticking, cabinetCalled}
+use Rattle.stepwise.proofs.Words.{entries-many, cabinet-length}
+use Rattle.stepwise.proofs.Calls.{lent-wrong, lent-there, answered-taken, answered-refused, named-kind, named-none, start-taken, start-refused}
+
+-- ---- the start
+
+fresh-length : (s : Settings) → length (cabinetWords (freshCabinet s)) ≡ 405
+unfolding freshCabinet freshTable
+fresh-length s = cabinet-length (freshCabinet s) refl
+
+module _ (ws vs : List ℕ) (s : Settings) (m : Stepped) (own k : ℕ) (es : s ≡ settingsOf vs) (em : m ≡ started s) (eo : own ≡ numberOf (m .answer))
+    (ek : k ≡ orFull own (eqb (length ws) 405)) where
+  pub cabinet-start-taken : (after : List ℕ) → k ≡ 0 → after ≡ splice ws 0 (cabinetWords (m .cabinet)) → called 0 after ≡ cabinetStarted ws (settingsOf vs)
+  unfolding cabinetStarted started
+  cabinet-start-taken after z e =
+      start-taken 405 ws s (settingsOf vs) es (m .answer) (ap (λ (x : Stepped). x .answer) em) own k eo ek (cabinetWords (freshCabinet (settingsOf vs))) after z (fresh-length (settingsOf vs))
+      (e ∙ ap (λ (c : Cabinet). splice ws 0 (cabinetWords c)) (ap (λ (x : Stepped). x .cabinet) em ∙ ap freshCabinet es))
+
+  pub cabinet-start-refused : (k ≡ 0 → ⊥) → called k ws ≡ cabinetStarted ws (settingsOf vs)
+  unfolding cabinetStarted started
+  cabinet-start-refused = start-refused 405 ws s (settingsOf vs) es (m .answer) (ap (λ (x : Stepped). x .answer) em) own k eo ek (cabinetWords (freshCabinet (settingsOf vs)))
+
+-- ---- a train's step that is taken has a place
+
+-- what is taken has the number 0
+taken-none : (k : ℕ) (c : Cabinet) (gives : Stepped) (o : Order) → unless k (refused c) gives .answer ≡ Taken o → k ≡ 0
+taken-none zero c gives o e = refl
+taken-none (suc k) c gives o e = absurd (let z : _≡_ {A = ℕ} 0 1 = cc in omega arith)
+
+pub approach-place : (t : Table) (n : ℕ) → approachRefusal n (standingOf t n) (noPlace t n) ≡ 0 → placeFor t n < 96
+approach-place t n ok = leb-false 96 (placeFor t n) (approach-says n (standingOf t n) (noPlace t n) ok .2)
+
+pub leave-place : (t : Table) (n : ℕ) → length (t .places) ≡ 96 → leaveRefusal n (standingOf t n) ≡ 0 → placeFor t n < 96
+leave-place t n many ok = place-room t n many (inl (leave-says n (standingOf t n) ok .1))
+
+module _ (ws : List ℕ) (c : Cabinet) (n : ℕ) (f : Found) (m : Stepped) (ec : c ≡ cabinetFrom ws) (ef : f ≡ foundFor (c .table) n) (o : Order) (t : m .answer ≡ Taken o) where
+  pub approach-there : (kind : Kind) → m ≡ approached c kind n → f .place < 96
+  unfolding approached
+  approach-there kind em = rw ef (approach-place (c .table) n (taken-none _ c _ o (ap (λ (x : Stepped). x .answer) (sym em) ∙ t)))
+
+  pub leave-there : m ≡ left c n → f .place < 96
+  unfolding left cabinetFrom
+  leave-there em =
+      let many : length (c .table .places) ≡ 96 = ap (λ (d : Cabinet). length (d .table .places)) ec ∙ entries-many ws 21 96 in
+      rw ef (leave-place (c .table) n many (taken-none _ c _ o (ap (λ (x : Stepped). x .answer) (sym em) ∙ t)))
+
+-- ---- an approach
+
+module _ (ws : List ℕ) (letter n : ℕ) (named : Named) (en : named ≡ kindNamed (letterOf letter)) where
+  pub approach-none : named ≡ Nothing → called 15 ws ≡ cabinetCalled ws (approaching letter n)
+  unfolding cabinetCalled
+  approach-none e = sym (named-none (kindNamed (letterOf letter)) (λ k. heard.approaching k n) ws (cabinetHears ws) (sym en ∙ e))
+
+  module _ (kind : Kind) (is : named ≡ As kind) where
+    approach-called : (x : Called) → x ≡ cabinetHears ws (heard.approaching kind n) → x ≡ cabinetCalled ws (approaching letter n)
+    unfolding cabinetCalled
+    approach-called x e = e ∙ sym (named-kind (kindNamed (letterOf letter)) (λ k. heard.approaching k n) ws (cabinetHears ws) kind (sym en ∙ is))
+
+    pub approach-wrong : (own r : ℕ) → (length ws ≡ 405 → ⊥) → own ≡ trainNumber n → r ≡ orElse own 14 → called r ws ≡ cabinetCalled ws (approaching letter n)
+    unfolding cabinetHears
+    approach-wrong own r f eo e = approach-called (called r ws) (lent-wrong 405 ws (trainNumber n) _ r f (e ∙ ap (λ (k : ℕ). orElse k 14) eo))
+
+    pub approach-steps : (c : Cabinet) (f : Found) (m : Stepped) (x : Called) → length ws ≡ 405 → c ≡ cabinetFrom ws → f ≡ foundFor (c .table) n → m ≡ approached c kind n →
+        x ≡ cabinetTrain ws (f .place) m → x ≡ cabinetCalled ws (approaching letter n)
+    unfolding cabinetHears cabinetFrom
+    approach-steps c f m x l ec ef em e =
+        let place : f .place ≡ placeFor (tableFrom ws) n = ap (λ (g : Found). g .place) ef ∙ ap (λ (d : Cabinet). placeFor (d .table) n) ec in
+        let step : m ≡ approached (cabinetFrom ws) kind n = em ∙ ap (λ (d : Cabinet). approached d kind n) ec in
+        approach-called x (lent-there 405 ws (trainNumber n) _ x l (e ∙ ap₂ (λ (p : ℕ) (u : Stepped). cabinetTrain ws p u) place step))
+
+-- ---- a leave
+
+pub leave-wrong : (ws : List ℕ) (n own r : ℕ) → (length ws ≡ 405 → ⊥) → own ≡ trainNumber n → r ≡ orElse own 14 → called r ws ≡ cabinetCalled ws (leaving n)
+unfolding cabinetCalled cabinetHears
+leave-wrong ws n own r f eo e = lent-wrong 405 ws (trainNumber n) _ r f (e ∙ ap (λ (k : ℕ). orElse k 14) eo)
+
+pub leave-steps : (ws : List ℕ) (n : ℕ) (c : Cabinet) (f : Found) (m : Stepped) (x : Called) → length ws ≡ 405 → c ≡ cabinetFrom ws → f ≡ foundFor (c .table) n → m ≡ left c n →
+    x ≡ cabinetTrain ws (f .place) m → x ≡ cabinetCalled ws (leaving n)
+unfolding cabinetCalled cabinetHears cabinetFrom
+leave-steps ws n c f m x l ec ef em e =
+    let place : f .place ≡ placeFor (tableFrom ws) n = ap (λ (g : Found). g .place) ef ∙ ap (λ (d : Cabinet). placeFor (d .table) n) ec in
+    let step : m ≡ left (cabinetFrom ws) n = em ∙ ap (λ (d : Cabinet). left d n) ec in
+    lent-there 405 ws (trainNumber n) _ x l (e ∙ ap₂ (λ (p : ℕ) (u : Stepped). cabinetTrain ws p u) place step)
+
+-- ---- a clock step, on the words beside the table
+
+pub clock-wrong : (ws : List ℕ) (r : ℕ) → (length ws ≡ 405 → ⊥) → r ≡ orElse 0 14 → called r ws ≡ cabinetCalled ws ticking
+unfolding cabinetCalled cabinetHears
+clock-wrong ws r n e = lent-wrong 405 ws 0 _ r n e
+
+module _ (ws : List ℕ) (l : length ws ≡ 405) (s : Settings) (ticks : Ticks) (f : First) (w : Control) (es : s ≡ settingsFrom ws) (et : ticks ≡ ticksFrom ws)
+    (ef : f ≡ firstIn ws soonestAt) (ew : w ≡ controlFrom ws) (t : Controlled) (is : t ≡ ticked s ticks f w) (r : ℕ) (packed : r ≡ packedAnswer (t .answer)) where
+  clock-called : (x : Called) → x ≡ answered (t .answer) (withControl ws (t .control)) ws → x ≡ cabinetCalled ws ticking
+  unfolding cabinetCalled cabinetHears cabinetFrom clocked
+  clock-called x e =
+      let words : t ≡ ticked (settingsFrom ws) (ticksFrom ws) (firstIn ws soonestAt) (controlFrom ws) = is ∙ rw (es, et, ef, ew) in
+      lent-there 405 ws 0 _ x l (e ∙ ap (λ (u : Controlled). answered (u .answer) (withControl ws (u .control)) ws) words)
+
+  pub clock-taken : (o : Order) (after : List ℕ) → t .answer ≡ Taken o → after ≡ withControl ws (t .control) → called r after ≡ cabinetCalled ws ticking
+  clock-taken o after a e = clock-called (called r after) (answered-taken (t .answer) (withControl ws (t .control)) ws r packed o after a e)
+
+  pub clock-refused : (k : ℕ) → t .answer ≡ Refused k → called r ws ≡ cabinetCalled ws ticking
+  clock-refused k a = clock-called (called r ws) (answered-refused (t .answer) (withControl ws (t .control)) ws r packed k a)

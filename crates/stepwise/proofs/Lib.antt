@@ -1,0 +1,10 @@
+pub mod Words
+pub mod Calls
+pub mod CabinetCalls
+pub mod BenchCalls
+pub mod Shown
+pub mod Back
+pub mod Written
+pub mod Lists
+pub mod CabinetDriven
+pub mod BenchDriven

@@ -1,0 +1,84 @@
+-- `stepwise::bench_clock` meets its contract: the words beside the table, and the head's own tick. Assumes nothing.
+use borrow.Author.Needs.{needs}
+use Rattle.stepwise.proofs.BenchCalls.{clock-wrong, clock-taken, clock-refused}
+use Rattle.stepwise.proofs.bench_clock.Statement.{statement}
+use Rattle.stepwise.proofs.bench_clock.Tie as tie
+
+to-64ths-requires : tie.Need-to-64ths-requires
+to-64ths-requires c κs = search needs
+
+reading-number-requires : tie.Need-reading-number-requires
+reading-number-requires c κs = search needs
+
+wrong-length-requires : tie.Need-wrong-length-requires
+wrong-length-requires c κs = search needs
+
+returns : tie.Need-returns
+returns c = clock-wrong _ _ _ _ _ (c .before .before .if1 .taken) (c .before .before .before .to-64ths .ensures) (c .before .reading-number .ensures) (c .wrong-length .ensures)
+
+head-from-requires : tie.Need-head-from-requires
+head-from-requires c κs = search needs
+
+tick-requires : tie.Need-tick-requires
+tick-requires c κs = search needs
+
+enum-told : tie.Need-enum-told
+enum-told c = search needs
+
+put-motion-requires : tie.Need-put-motion-requires
+put-motion-requires c κs = search needs
+
+pack-requires : tie.Need-pack-requires
+pack-requires c κs = search needs
+
+enum-told-2 : tie.Need-enum-told-2
+enum-told-2 c = search needs
+
+pack-requires-2 : tie.Need-pack-requires-2
+pack-requires-2 c κs = search needs
+
+same-length : tie.Need-same-length
+same-length c = search needs
+
+returns-2 : tie.Need-returns-2
+returns-2 c =
+    let at-put-motion = c .before .before .before in
+    let at-enum-told = at-put-motion .before .before in
+    let at-tick = at-enum-told .before .before in
+    let at-head-from = at-tick .before in
+    let at-if1 = at-head-from .before .before in
+    let at-to-64ths = at-if1 .before in
+    clock-taken _ (at-if1 .if1 .left) _ _ _ (at-head-from .head-from .ensures) (at-to-64ths .to-64ths .ensures)
+    _ (at-tick .tick .ensures) _ (c .pack .ensures) _ _ (at-enum-told .enum-told .given .1) (at-put-motion .put-motion .ensures)
+
+same-length-2 : tie.Need-same-length-2
+same-length-2 c = search needs
+
+returns-3 : tie.Need-returns-3
+returns-3 c =
+    let at-tick = c .before .before .before in
+    let at-head-from = at-tick .before in
+    let at-if1 = at-head-from .before .before in
+    let at-to-64ths = at-if1 .before in
+    clock-refused _ (at-if1 .if1 .left) _ _ _ (at-head-from .head-from .ensures) (at-to-64ths .to-64ths .ensures)
+    _ (at-tick .tick .ensures) _ (c .pack2 .ensures) _ (c .before .enum-told2 .given .1)
+
+pub bench-clock-spec : {M : Type 1} → statement M
+bench-clock-spec =
+    tie.close
+    (tie.spec
+    to-64ths-requires
+    reading-number-requires
+    wrong-length-requires
+    returns
+    head-from-requires
+    tick-requires
+    enum-told
+    put-motion-requires
+    pack-requires
+    enum-told-2
+    pack-requires-2
+    same-length
+    returns-2
+    same-length-2
+    returns-3)

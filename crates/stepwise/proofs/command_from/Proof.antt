@@ -1,0 +1,13 @@
+-- `stepwise::command_from` meets its contract. Assumes nothing.
+use borrow.Author.Tests.{eq-eqb, ne-eqb}
+use Rattle.stepwise.proofs.command_from.Statement.{statement}
+use Rattle.stepwise.proofs.command_from.Tie as tie
+
+returns : tie.Need-returns
+returns c = simp (eq-eqb _ _ (c .if1 .taken))
+
+returns-2 : tie.Need-returns-2
+returns-2 c = simp (ne-eqb _ _ (c .if1 .left))
+
+pub command-from-spec : {M : Type 1} → statement M
+command-from-spec = tie.close (tie.spec returns returns-2)

@@ -1,0 +1,50 @@
+-- The calls on a cabinet in words: its start and its steps (document 01, "Cabinet"). Assumes nothing.
+use Prim.Native.Nat.{ℕ}
+use mathlib.Core.List.{List}
+use mathlib.Core.Option.{Option, some}
+use lib.Dec.{eqb}
+use lib.ListN.{length}
+use Rattle.settings.specs.declared.Settings.{Settings}
+use Rattle.settings.specs.Settings.{settingsRefusal}
+use Rattle.trains.specs.Table.{placeFor}
+use Rattle.cabinet.specs.declared.Stepped.{Stepped}
+use Rattle.cabinet.specs.Cabinet.{freshCabinet, approached, left, clocked}
+use Rattle.runs.specs.Letters.{letterOf}
+use Rattle.runs.specs.Claims as heard
+use Rattle.runs.specs.Claims.{Heard}
+use Rattle.runs.specs.Run.{orFull}
+use Rattle.stepwise.specs.Words.{cabinetLength, tableFrom, cabinetFrom, cabinetWords}
+use Rattle.stepwise.specs.Calls.{Called, answered, lent, trainNumber, startedBy, withControl, withEntry, entryThere, kindNamed, ofKind, orNoStep}
+
+unfoldable pub cabinetStarted : List ℕ → Settings → Called
+cabinetStarted ws s = startedBy (orFull (settingsRefusal s) (eqb (length ws) cabinetLength)) (cabinetWords (freshCabinet s)) ws
+
+-- ---- the cabinet
+
+abbrev pub cabinetTrain : List ℕ → ℕ → Stepped → Called
+cabinetTrain ws place m = answered (m .answer) (withEntry ws (m .cabinet .control) (m .cabinet .soonest) place (entryThere (m .cabinet .table) place)) ws
+
+abbrev pub cabinetTicked : List ℕ → Stepped → Called
+cabinetTicked ws m = answered (m .answer) (withControl ws (m .cabinet .control)) ws
+
+-- what the cabinet in the words makes of what it hears
+unfoldable pub cabinetHears : List ℕ → Heard → Called
+cabinetHears ws (heard.approaching k n) =
+    lent cabinetLength ws (trainNumber n) (cabinetTrain ws (placeFor (tableFrom ws) n) (approached (cabinetFrom ws) k n))
+cabinetHears ws (heard.leaving n) = lent cabinetLength ws (trainNumber n) (cabinetTrain ws (placeFor (tableFrom ws) n) (left (cabinetFrom ws) n))
+cabinetHears ws heard.ticking = lent cabinetLength ws 0 (cabinetTicked ws (clocked (cabinetFrom ws)))
+
+-- a call on a cabinet: an approach with its letter and its train, a leave, a clock step
+pub data CabinetCall : Type 0 where
+  approaching : ℕ → ℕ → CabinetCall
+  leaving : ℕ → CabinetCall
+  ticking : CabinetCall
+
+-- what it hears of it
+abbrev pub heardIn : CabinetCall → Option Heard
+heardIn (approaching letter n) = ofKind (kindNamed (letterOf letter)) (λ k. heard.approaching k n)
+heardIn (leaving n) = some (heard.leaving n)
+heardIn ticking = some heard.ticking
+
+unfoldable pub cabinetCalled : List ℕ → CabinetCall → Called
+cabinetCalled ws x = orNoStep (heardIn x) ws (cabinetHears ws)

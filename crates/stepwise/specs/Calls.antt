@@ -1,0 +1,109 @@
+-- One call a step, on words that the caller lends: how it answers, and what words it changes.
+-- A call whose words are not as many as they should be is refused, 14 last, after the number that is found without them; an approach whose letter is not the
+-- record's A, B, E or F is no step, and is refused before all else, 15. A refusal keeps every word. Assumes nothing.
+use Prim.Native.Nat.{ℕ, _+_, _*_}
+use mathlib.Core.Bool.{cond, not}
+use mathlib.Core.List.{List}
+use mathlib.Core.Option.{Option, none, some}
+use lib.Dec.{eqb}
+use lib.ListN.{length, getD}
+use Rattle.lines.specs.Bytes.{splice}
+use Rattle.settings.specs.declared.Kind.{Kind}
+use Rattle.settings.specs.Refusal.{refuse, unless}
+use Rattle.trains.specs.declared.Entry.{Entry}
+use Rattle.trains.specs.declared.First.{First}
+use Rattle.trains.specs.declared.Table.{Table}
+use Rattle.trains.specs.Trains.{isTrain}
+use Rattle.trains.specs.Table.{awayEntry}
+use Rattle.cabinet.specs.declared.Answer.{Answer}
+use Rattle.cabinet.specs.declared.Answer.the-variants.{Taken, Refused}
+use Rattle.cabinet.specs.declared.Control.{Control}
+use Rattle.cabinet.specs.Cabinet.{numberOf}
+use Rattle.bench.specs.declared.Event.the-variants as events
+use Rattle.bench.specs.declared.Head.{Head}
+use Rattle.bench.specs.declared.Motion.{Motion}
+use Rattle.runs.specs.declared.Letter.{Letter}
+use Rattle.runs.specs.declared.Letter.the-variants as letter
+use Rattle.runs.specs.Run.{answerByte, answerTrain, orElse}
+use Rattle.stepwise.specs.declared.Named.{Named}
+use Rattle.stepwise.specs.declared.Named.the-variants.{As, Nothing}
+use Rattle.stepwise.specs.Words.{controlAt, soonestAt, placeAt, armAt, latestAt, entryWords, firstWords, controlWords, armWords}
+
+-- what a call answers, and the words after it
+pub record Called : Type 0 where
+  pub answer : ℕ
+  pub words : List ℕ
+
+abbrev pub called : ℕ → List ℕ → Called
+called answer words = record { answer = answer; words = words }
+
+-- ---- answers
+
+-- the refusal number, 256 times the record's letter of the command given (D 68, U 85, 0 none), and 65,536 times the train of a lower
+abbrev pub packedAnswer : Answer → ℕ
+packedAnswer a = numberOf a + 256 * answerByte a + 65536 * answerTrain a
+
+-- the new words where a step is taken; a refusal keeps every word
+abbrev pub whereTaken : Answer → List ℕ → List ℕ → List ℕ
+whereTaken (Taken o) new ws = new
+whereTaken (Refused k) new ws = ws
+
+abbrev pub answered : Answer → List ℕ → List ℕ → Called
+answered a new ws = called (packedAnswer a) (whereTaken a new ws)
+
+-- a call on words that should be so many: the number that is found without them, or 14, where they are not
+abbrev pub lent : ℕ → List ℕ → ℕ → Called → Called
+lent many ws own gives = cond (eqb (length ws) many) gives (called (orElse own 14) ws)
+
+-- what is found of a train's step without the words: 5 no train's number
+abbrev pub trainNumber : ℕ → ℕ
+trainNumber n = refuse (not (isTrain n)) 5 0
+
+-- ---- starts
+
+-- the settings' own refusal, or 14; else the words of a fresh one
+abbrev pub startedBy : ℕ → List ℕ → List ℕ → Called
+startedBy k new ws = called k (unless k (λ j. ws) new)
+
+-- ---- what a step that is taken writes
+
+-- a clock step: instant and command
+abbrev pub withControl : List ℕ → Control → List ℕ
+withControl ws w = splice ws controlAt (controlWords w)
+
+-- a bench's, the arm too
+abbrev pub withMotion : List ℕ → Motion → List ℕ
+withMotion ws m = splice (withControl ws (m .control)) armAt (armWords (m .angle) (m .previous))
+
+-- a train's step: instant and command, the soonest train, and the entry at the train's place
+abbrev pub withEntry : List ℕ → Control → First → ℕ → Entry → List ℕ
+withEntry ws w soonest place e = splice (splice (withControl ws w) soonestAt (firstWords soonest)) (placeAt place) (entryWords e)
+
+-- a bench's, the train that is first at its latest too
+abbrev pub withEvent : List ℕ → Head → ℕ → Entry → List ℕ
+withEvent ws h place e = splice (withEntry ws (h .motion .control) (h .soonest) place e) latestAt (firstWords (h .latest))
+
+-- the entry at a place
+abbrev pub entryThere : Table → ℕ → Entry
+entryThere t place = getD (t .places) place awayEntry
+
+-- ---- calls
+
+-- the kind of approach that a letter names: A, B, E, F
+abbrev pub kindNamed : Letter → Named
+kindNamed (letter.Event (events.Approach k)) = As k
+kindNamed (letter.Event events.Occupy) = Nothing
+kindNamed (letter.Event events.Leave) = Nothing
+kindNamed letter.Clock = Nothing
+kindNamed (letter.Command k) = Nothing
+kindNamed letter.None = Nothing
+
+-- an approach of the kind that is named, if one is
+abbrev pub ofKind : {X : Type 0} → Named → (Kind → X) → Option X
+ofKind (As k) approach = some (approach k)
+ofKind Nothing approach = none
+
+-- what a call that names a step gives; 15 where it names none
+abbrev pub orNoStep : {X : Type 0} → Option X → List ℕ → (X → Called) → Called
+orNoStep (some x) ws gives = gives x
+orNoStep none ws gives = called 15 ws
