@@ -1,8 +1,8 @@
 /* The library's calls, one a step, against the same rules in plain C, in place (inplace.c). benchmark/run builds and calls it:
  *
  *   calls                 both sides leave the same answers and the same words on random steps, or it fails; then the times
- *   calls once SIDE CASE  a round of one side (ours, inplace, or none: the input is only made) on one case, for callgrind
- *   calls cases           the cases by name, each with the calls of a round
+ *   calls once SIDE CASE  some rounds of one side (ours, inplace, or none: the input is only made) on one case, for callgrind
+ *   calls cases           the cases by name, each with how many calls these rounds have
  */
 #define _POSIX_C_SOURCE 199309L
 #include "inplace.h"
@@ -172,7 +172,8 @@ static void compare(void) {
 
 /* ---- cases: 96 trains present, their numbers up to five digits */
 
-enum { TRAINS = 96, CLOCKS = 50000, CLOCK_TIMES = 4, TIMES = 100, ROUNDS = 21 };
+/* Rounds are short, so that another process spoils few of them. */
+enum { TRAINS = 96, CLOCKS = 10000, ROUNDS = 501, ROUNDS_ONCE = 20 };
 
 /* kept from the compiler's knowledge */
 static volatile uint64_t sum;
@@ -235,12 +236,12 @@ static void prepare(const struct call_case *c) {
     }
 }
 
-static double calls_of(const struct call_case *c) {
-    if (c->calls == 'C') return (double)CLOCKS * CLOCK_TIMES;
-    return (double)TIMES * (TRAINS - c->from) * (c->calls == 'P' ? 2 : 1);
+/* The calls of a round. */
+static uint32_t calls_of(const struct call_case *c) {
+    return c->calls == 'C' ? CLOCKS : (TRAINS - c->from) * (c->calls == 'P' ? 2 : 1);
 }
 
-/* The seconds of 50,000 clock calls: nothing but the call in the loop. */
+/* Clock calls: nothing but the call in the loop. */
 static double clocks(enum side side, int bench) {
     uint64_t answers = 0;
     double at = seconds();
@@ -281,13 +282,8 @@ static double trains(enum side side, const struct call_case *c) {
 
 /* The seconds of a round's calls. */
 static double round_of(enum side side, const struct call_case *c) {
-    double spent = 0;
-    int i;
-    for (i = 0; i < (c->calls == 'C' ? CLOCK_TIMES : TIMES); i++) {
-        now_at = begin;
-        spent += c->calls == 'C' ? clocks(side, c->bench) : trains(side, c);
-    }
-    return spent;
+    now_at = begin;
+    return c->calls == 'C' ? clocks(side, c->bench) : trains(side, c);
 }
 
 static int by_size(const void *a, const void *b) {
@@ -304,7 +300,7 @@ static void measure(void) {
     int i, k;
     printf("\n%-53s%10s%10s%10s\n", "nanoseconds a call, 96 trains present, median", "ours", "in place", "ratio");
     for (i = 0; i < CASES; i++) {
-        double ours[ROUNDS], theirs[ROUNDS], calls = calls_of(&cases[i]);
+        double ours[ROUNDS], theirs[ROUNDS], calls = (double)calls_of(&cases[i]);
         prepare(&cases[i]);
         for (k = 0; k < ROUNDS; k++) {
             ours[k] = round_of(OURS, &cases[i]) * 1e9 / calls;
@@ -316,12 +312,11 @@ static void measure(void) {
 }
 
 static void once(const char *side, const char *name) {
-    int i;
+    int i, k;
     for (i = 0; i < CASES; i++) {
         if (strcmp(cases[i].name, name) != 0) continue;
         prepare(&cases[i]);
-        if (strcmp(side, "ours") == 0) round_of(OURS, &cases[i]);
-        if (strcmp(side, "inplace") == 0) round_of(IN_PLACE, &cases[i]);
+        for (k = 0; k < ROUNDS_ONCE && strcmp(side, "none") != 0; k++) round_of(strcmp(side, "ours") == 0 ? OURS : IN_PLACE, &cases[i]);
     }
 }
 
@@ -330,7 +325,7 @@ int main(int argc, char **argv) {
     if (argc == 4 && strcmp(argv[1], "once") == 0) {
         once(argv[2], argv[3]);
     } else if (argc == 2 && strcmp(argv[1], "cases") == 0) {
-        for (i = 0; i < CASES; i++) printf("%s %.0f %s\n", cases[i].name, calls_of(&cases[i]), cases[i].what);
+        for (i = 0; i < CASES; i++) printf("%s %u %s\n", cases[i].name, (unsigned)(ROUNDS_ONCE * calls_of(&cases[i])), cases[i].what);
     } else {
         compare();
         measure();

@@ -5,7 +5,7 @@
  *
  * Memory. The caller owns all of it. The library has no memory of its own and no global state, allocates nothing, keeps no pointer
  * after a call, and calls nothing but memcpy. A call always ends, never blocks and has no condition on the numbers that it is given.
- * Stack: WEQHASO_STEP_STACK and WEQHASO_STACK below.
+ * Its stack: WEQHASO_STEP_STACK, WEQHASO_STACK.
  *
  * Slices. Each is passed as a pointer and a length, which counts elements. Pointers are aligned as C aligns what they point to;
  * null is allowed only with length 0. The slices of one call must not overlap. A refused call leaves every element as it was, and
@@ -130,10 +130,9 @@ extern "C" {
 /* ---- one call a step
  *
  * A start writes every word of a state: it may hold anything before. From then on only these calls may change it. Its words may be
- * copied, and saved and put back on the same machine. They belong to this version of the library: words of another version are not
- * read, so start afresh after a change. Whatever words a call is given, it reads them as some cabinet or bench and does no harm
- * outside them; but what is proved (never a train inside with the arm not down, never a closed road without a train to explain it)
- * holds only for words that a start left and only these calls have changed.
+ * copied, and saved and put back on the same machine. They belong to this version of the library and bear no mark of it: words that
+ * another version left are not to be handed in, start afresh. Whatever words a call is given, it reads them as some cabinet or bench
+ * and does no harm outside them; but what is proved holds only for words that a start left and only these calls have changed.
  *
  * A command is given once, by the step that causes it. `length` counts words: WEQHASO_CABINET_WORDS or WEQHASO_BENCH_WORDS. A clock
  * call does not look into the table of trains.
@@ -145,7 +144,7 @@ extern "C" {
 #define WEQHASO_WORD_RISE_TICKS 14u                    /* U */
 #define WEQHASO_WORD_INSTANT 15u
 #define WEQHASO_WORD_COMMAND 16u                       /* 0 up, 1 down */
-#define WEQHASO_WORD_SOONEST 17u                       /* 1 and the soonest due train, 0 where none is present */
+#define WEQHASO_WORD_SOONEST 17u                       /* 0 no train is present, 1 the soonest due one follows */
 #define WEQHASO_WORD_SOONEST_TRAIN 18u
 #define WEQHASO_WORD_SOONEST_DUE 19u                   /* its due instant; its high word, after a start always 0, is 20 */
 #define WEQHASO_WORD_TRAIN(i) (21u + 4u * (i))         /* entry i, 0 to 95, of the table: the train's number, 0 where no train has it */
@@ -155,7 +154,7 @@ extern "C" {
 /* a bench only */
 #define WEQHASO_WORD_ANGLE 405u                        /* of the arm, in 64ths of a degree */
 #define WEQHASO_WORD_ANGLE_BEFORE 406u                 /* before the last clock step */
-#define WEQHASO_WORD_LATE 407u                         /* 1 and the coming train that is first at its latest, 0 where none is coming */
+#define WEQHASO_WORD_LATE 407u                         /* 0 no train is coming, 1 the one that is first at its latest follows */
 #define WEQHASO_WORD_LATE_TRAIN 408u
 #define WEQHASO_WORD_LATE_INSTANT 409u                 /* its latest instant; the high word is 410 */
 

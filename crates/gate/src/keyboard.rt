@@ -10,14 +10,19 @@ use libc::STDIN_FILENO;
 use live::Given;
 use live::Live;
 
-// The bench, the bytes held of the present line, the bytes that are to go out, the lines ended, whether one was refused, and whether a write failed.
-struct Desk {
-    live: Live,
+// The bytes held of the present line, the bytes that are to go out, the lines ended, whether one was refused, and whether a write failed.
+struct Tally {
     held: usize,
     pending: usize,
     lines: u64,
     refused: bool,
     failed: bool,
+}
+
+// The bench beside it.
+struct Desk {
+    live: Live,
+    tally: Tally,
 }
 
 // What a line gives, within its buffer.
@@ -42,62 +47,70 @@ fn window_buffer() -> [u8; 8192]
 }
 
 // What is to go out is written.
-fn flush(desk: Desk, window: &[u8]) -> Desk
+fn flush(tally: Tally, window: &[u8]) -> Tally
     ensures { λ r. ⌜ r .pending ≡ 0 ⌝ }
 {
-    let n = desk.pending;
-    let mut d = desk;
-    d.pending = 0;
+    let n = tally.pending;
+    let mut t = tally;
+    t.pending = 0;
     if n <= window.len() {
-        d.failed = !put_out(&window[..n]);
-        return d;
+        t.failed = !put_out(&window[..n]);
+        return t;
     }
-    d
+    t
 }
 
 // Space for the longest lines that go out at once: the record's head and its last line.
-fn make_room(desk: Desk, window: &[u8]) -> Desk
+fn make_room(tally: Tally, window: &[u8]) -> Tally
     requires { ⌜ 240 ≤ length (now window) ⌝ }
     ensures { λ r. ⌜ r .pending + 240 ≤ length (now (window .entry)) ⌝ }
 {
-    if desk.pending <= window.len() - 240 {
-        return desk;
+    if tally.pending <= window.len() - 240 {
+        return tally;
     }
-    flush(desk, window)
+    flush(tally, window)
+}
+
+// A line that was answered with this number, and with so many bytes that are to go out; a refusal is said.
+fn note_line(tally: Tally, number: u8, bytes: usize, window: &[u8]) -> Tally {
+    let mut t = tally;
+    t.held = 0;
+    t.lines = std::num::wrapping_add_u64(tally.lines, 1);
+    t.pending = std::num::wrapping_add_usize(tally.pending, bytes);
+    if number == 0 {
+        return t;
+    }
+    t = flush(t, window);
+    say_refusal(
+        t.lines,
+        number,
+        b"no settings and no step, or not in its place",
+    );
+    t.refused = true;
+    t
 }
 
 // A line has ended: its lines of the record are to go out, or its refusal is said.
 fn take_line(desk: Desk, line: &[u8], window: &mut [u8]) -> Desk
     requires { ⌜ 240 ≤ length (now window) ⌝ }
 {
-    let mut d = make_room(desk, window);
-    let at = d.pending;
-    let before = d.live;
+    let before = desk.live;
+    let t = make_room(desk.tally, window);
+    let at = t.pending;
     let g = give_line(before, line, &mut window[at..]);
-    let number = g.number;
     let after = g.live;
-    d.live = after;
-    d.held = 0;
-    d.lines = std::num::wrapping_add_u64(desk.lines, 1);
-    if number == 0 {
-        d.pending = std::num::wrapping_add_usize(at, g.bytes);
-        return d;
+    let noted = note_line(t, g.number, g.bytes, window);
+    Desk {
+        live: after,
+        tally: noted,
     }
-    d = flush(d, window);
-    say_refusal(
-        d.lines,
-        number,
-        b"no settings and no step, or not in its place",
-    );
-    d.refused = true;
-    d
 }
 
 // The line that is held, where it has ended.
 fn end_line(desk: Desk, line: &[u8], ended: bool, window: &mut [u8]) -> Desk
     requires { ⌜ 240 ≤ length (now window) ⌝ }
 {
-    let n = desk.held;
+    let n = desk.tally.held;
     if !ended {
         return desk;
     }
@@ -145,30 +158,34 @@ fn take_bytes(desk: Desk, bytes: &[u8], line: &mut [u8], window: &mut [u8]) -> D
     let mut i: usize = 0;
     while i < bytes.len() {
         let e = line_end(bytes, i);
-        d.held = hold(line, d.held, &bytes[i..e]);
+        let held = hold(line, d.tally.held, &bytes[i..e]);
+        d.tally.held = held;
         i = e + 1;
         d = end_line(d, line, e < bytes.len(), window);
-        if d.failed {
+        if d.tally.failed {
             return d;
         }
     }
-    flush(d, window)
+    let t = flush(d.tally, window);
+    d.tally = t;
+    d
 }
 
 // The end of the input: a line without its byte 10 is taken, then the record's last line goes out. The status.
 fn end_input(desk: Desk, line: &[u8], window: &mut [u8]) -> u8
     requires { ⌜ 240 ≤ length (now window) ⌝ }
 {
-    let mut d = make_room(end_line(desk, line, 0 < desk.held, window), window);
-    let at = d.pending;
+    let d = end_line(desk, line, 0 < desk.tally.held, window);
     let last = d.live;
+    let mut t = make_room(d.tally, window);
+    let at = t.pending;
     let g = give_last(last, &mut window[at..]);
-    d.pending = std::num::wrapping_add_usize(at, g.bytes);
-    d = flush(d, window);
-    if d.failed {
+    t.pending = std::num::wrapping_add_usize(at, g.bytes);
+    t = flush(t, window);
+    if t.failed {
         return 2;
     }
-    if d.refused { 1 } else { 0 }
+    if t.refused { 1 } else { 0 }
 }
 
 // Standard input, read as it comes. The status.
@@ -176,11 +193,13 @@ pub fn bench_input() -> u8 {
     let fresh = live::fresh();
     let mut desk = Desk {
         live: fresh,
-        held: 0,
-        pending: 0,
-        lines: 0,
-        refused: false,
-        failed: false,
+        tally: Tally {
+            held: 0,
+            pending: 0,
+            lines: 0,
+            refused: false,
+            failed: false,
+        },
     };
     let mut line = [0u8; 1001];
     let mut window = window_buffer();
@@ -197,7 +216,7 @@ pub fn bench_input() -> u8 {
             return end_input(desk, &line, &mut window);
         }
         desk = take_bytes(desk, &chunk[..n], &mut line, &mut window);
-        if desk.failed {
+        if desk.tally.failed {
             return 2;
         }
         turns = turns - 1;

@@ -8,14 +8,19 @@ use mathlib.Core.List.{List, [], _∷_, _++_, append-assoc, append-nil}
 use borrow.Table.Steps.{cases}
 use borrow.Author.Tests.{eqb-true, leb-true, leb-false, not-true, eq-eqb, le-leb, lt-ltb}
 use lib.Dec.{eqb, leb}
+use lib.Ieee.{round}
 use lib.ListN.{length, take}
 use lib.Seq.{take-all, length-take-le}
 use Rattle.settings.proofs.Laws.{both}
+use Rattle.arm.specs.declared.Reading.{Reading}
+use Rattle.arm.specs.Angle.{degrees}
+use Rattle.arm.specs.Shown.{readingOf}
+use Rattle.arm.proofs.Readings.{round-trip}
 use Rattle.arm.specs.declared.Reading.the-variants.{Angle, Refused}
 use Rattle.steplines.specs.Fields.{isBlank, fieldsFrom, fields, begins}
-use Rattle.steplines.specs.Numbers.{angleOf}
+use Rattle.steplines.specs.Numbers.{angleOf, degreesOf}
 use Rattle.steplines.specs.StepLine.{meaningOf}
-use Rattle.steplines.specs.Claims.{all, FieldsAre, AngleExactly, FirstBytes}
+use Rattle.steplines.specs.Claims.{all, FieldsAre, AngleExactly, BenchReads, FirstBytes}
 use Rattle.steplines.proofs.Lines.{meaning-comment, meaning-long}
 
 -- ---- fields
@@ -75,6 +80,14 @@ only-angle minus d k m e h s =
 
 pub angle-exactly : (minus : Bool) (d k m : ℕ) → AngleExactly minus d k m
 angle-exactly minus d k m = record { is = is-angle minus d k m; only = only-angle minus d k m }
+
+read-back : (r : Reading) → ((m : ℕ) → r ≡ Angle m → m ≤ 5760) → readingOf (degreesOf r) ≡ r
+unfolding readingOf degrees round
+read-back (Angle m) h = round-trip m (h m refl)
+read-back Refused h = refl
+
+pub bench-reads : BenchReads
+bench-reads minus d k = read-back (angleOf minus d k) (λ m e. is-angle minus d k m e .1)
 
 -- ---- a line that is cut after 1,001 bytes
 

@@ -20,7 +20,7 @@ use Rattle.runs.specs.Letters.{letterOf}
 use Rattle.steplines.specs.declared.Meaning.{Meaning}
 use Rattle.steplines.specs.declared.Meaning.the-variants.{Skip, Take, Wrong}
 use Rattle.steplines.specs.Fields.{fields, begins, isWord}
-use Rattle.steplines.specs.Numbers.{allDigits, isNumber, numberOf, wholeOf, decimalsOf, isReading, readingOf, degreesOf}
+use Rattle.steplines.specs.Numbers.{allDigits, isNumber, numberOf, wholeOf, decimalsOf, isReading, angleIn, degreesOf}
 use Rattle.steplines.specs.StepLine.{clockWith, clockOf, stepWith, stepOf, settingsWord, allNumbers, startWith, startOf, meaningOf}
 use Rattle.steplines.proofs.Numbers.{number-append, whole-take, decimals-drop}
 
@@ -42,7 +42,7 @@ module _ (minus : Bool) (whole decimals : List ℕ) (w d : Bool) (ew : w ≡ all
   pub clock-digits : form ≡ true → allDigits decimals ≡ true
   clock-digits t = sym ed ∙ both w d (both (ltb 0 (length whole) || ltb 0 (length decimals)) (w && d) t .1) .1
 
-  pub clock-read : form ≡ true → (r : Reading) (x : Float) → r ≡ readingOf minus whole decimals → x ≡ degreesOf r → Take (Clock x) ≡ clockWith minus whole decimals
+  pub clock-read : form ≡ true → (r : Reading) (x : Float) → r ≡ angleIn minus whole decimals → x ≡ degreesOf r → Take (Clock x) ≡ clockWith minus whole decimals
   unfolding clockWith
   clock-read t r x er ex = rw (ex, er, sym is-reading ∙ t)
 

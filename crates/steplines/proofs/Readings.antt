@@ -12,7 +12,7 @@ use lib.Dec.{eqb, leb}
 use lib.ListN.{length, getD, drop}
 use Rattle.settings.proofs.Laws.{both, within-says}
 use Rattle.arm.specs.declared.Reading.the-variants.{Angle, Refused}
-use Rattle.steplines.specs.Numbers.{isDigit, allDigits, valueFrom, value, smaller, largest, numberOf, angleOf, readingOf}
+use Rattle.steplines.specs.Numbers.{isDigit, allDigits, valueFrom, value, smaller, largest, numberOf, angleOf, angleIn}
 use Rattle.steplines.specs.Walk.{withDecimals, mostWith, bySix}
 
 -- ---- the value of digits
@@ -190,7 +190,7 @@ cut-left (suc n) =
 
 -- the reading by six decimals
 pub reading-six : (minus : Bool) (whole decimals : List ℕ) → allDigits decimals ≡ true
-    → bySix minus (numberOf (drop 6 decimals)) (withDecimals (numberOf whole) decimals 6) ≡ readingOf minus whole decimals
+    → bySix minus (numberOf (drop 6 decimals)) (withDecimals (numberOf whole) decimals 6) ≡ angleIn minus whole decimals
 reading-six minus whole decimals h =
     let w = value whole in
     let r = value (drop 6 decimals) in

@@ -1,4 +1,4 @@
--- What the definitions of a line amount to, said another way: which fields a line has, which readings are an angle, and how much of a line tells its
+-- What the definitions of a line amount to, said another way: which fields a line has, which readings are an angle and what the bench makes of them, and how much of a line tells its
 -- meaning. Assumes nothing.
 use Prim.Native.Nat.{ℕ, suc, _*_, _^_, _≤_}
 use mathlib.Core.Path.{_≡_}
@@ -6,8 +6,9 @@ use mathlib.Core.Bool.{Bool, true, false, _&&_}
 use mathlib.Core.List.{List, [], _∷_, _++_}
 use lib.ListN.{take}
 use Rattle.arm.specs.declared.Reading.the-variants.{Angle}
+use Rattle.arm.specs.Shown.{readingOf}
 use Rattle.steplines.specs.Fields.{isBlank, fields}
-use Rattle.steplines.specs.Numbers.{angleOf}
+use Rattle.steplines.specs.Numbers.{angleOf, degreesOf}
 use Rattle.steplines.specs.StepLine.{longest, meaningOf}
 use Rattle.steplines.specs.Walk.{belongs}
 
@@ -27,6 +28,10 @@ pub record FieldsAre : Type 0 where
 pub record AngleExactly (minus : Bool) (d k m : ℕ) : Type 0 where
   pub is : angleOf minus d k ≡ Angle m → (m * 10 ^ k ≡ 64 * d) × (m ≤ 5760) × (minus ≡ true → d ≡ 0)
   pub only : m * 10 ^ k ≡ 64 * d → m ≤ 5760 → (minus ≡ true → d ≡ 0) → angleOf minus d k ≡ Angle m
+
+-- the bench makes of the step that a reading gives just this reading: an f32 holds every angle exactly, and what is no angle stays none
+abbrev pub BenchReads : Type 0
+BenchReads = (minus : Bool) (d k : ℕ) → readingOf (degreesOf (angleOf minus d k)) ≡ angleOf minus d k
 
 -- the first 1,001 bytes of a line tell its meaning, so no more of it need be held
 abbrev pub FirstBytes : Type 0

@@ -14,6 +14,7 @@ use Rattle.steplines.specs.Fields.{begins}
 
 -- ---- digits
 
+-- bytes 48 to 57
 abbrev pub isDigit : ℕ → Bool
 isDigit b = within 48 57 b
 
@@ -48,14 +49,14 @@ numberOf digits = smaller (value digits) largest
 
 -- ---- a reading: an optional minus, digits, and optionally a point and digits
 
--- the minus, and the bytes after it
+-- the minus, byte 45, and what is without it
 abbrev pub hasMinus : List ℕ → Bool
 hasMinus bs = begins 45 bs
 
 abbrev pub unsigned : List ℕ → List ℕ
 unsigned bs = cond (hasMinus bs) (drop 1 bs) bs
 
--- the bytes before the first point, and those after it
+-- the bytes before the first point, byte 46, and those after it
 unfoldable pub wholeOf : List ℕ → List ℕ
 wholeOf [] = []
 wholeOf (b ∷ bs) = cond (eqb b 46) [] (b ∷ wholeOf bs)
@@ -73,9 +74,9 @@ unfoldable pub angleOf : Bool → ℕ → ℕ → Reading
 angleOf minus d k =
     cond (eqb (64 * d % 10 ^ k) 0 && (leb (64 * d / 10 ^ k) 5760 && (not minus || eqb d 0))) (Angle (64 * d / 10 ^ k)) Refused
 
--- d is the value of all digits as one number, and k the number of digits after the point
-abbrev pub readingOf : Bool → List ℕ → List ℕ → Reading
-readingOf minus whole decimals = angleOf minus (value (whole ++ decimals)) (length decimals)
+-- d the value of all digits as one number, and k the number of digits after the point
+abbrev pub angleIn : Bool → List ℕ → List ℕ → Reading
+angleIn minus whole decimals = angleOf minus (value (whole ++ decimals)) (length decimals)
 
 -- what the bench gets: the exact degrees, or 5,761 64ths, which it refuses by 12
 abbrev pub degreesOf : Reading → Float

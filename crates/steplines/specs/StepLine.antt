@@ -15,13 +15,13 @@ use Rattle.runs.specs.Letters.{letterOf, eventStep}
 use Rattle.steplines.specs.declared.Meaning.{Meaning}
 use Rattle.steplines.specs.declared.Meaning.the-variants.{Skip, Start, Take, Wrong}
 use Rattle.steplines.specs.Fields.{fields, begins, isWord}
-use Rattle.steplines.specs.Numbers.{isNumber, numberOf, hasMinus, unsigned, wholeOf, decimalsOf, isReading, readingOf, degreesOf}
+use Rattle.steplines.specs.Numbers.{isNumber, numberOf, hasMinus, unsigned, wholeOf, decimalsOf, isReading, angleIn, degreesOf}
 
 -- ---- a step
 
 -- a clock step with the reading that these bytes before and after the point are
 unfoldable pub clockWith : Bool → List ℕ → List ℕ → Meaning
-clockWith minus whole decimals = cond (isReading whole decimals) (Take (step.Clock (degreesOf (readingOf minus whole decimals)))) Wrong
+clockWith minus whole decimals = cond (isReading whole decimals) (Take (step.Clock (degreesOf (angleIn minus whole decimals)))) Wrong
 
 abbrev pub clockOf : List ℕ → Meaning
 clockOf field = clockWith (hasMinus field) (wholeOf (unsigned field)) (decimalsOf (unsigned field))

@@ -6,7 +6,7 @@ ghost use Prim.Native.Nat.{_+_, _-_, _*_, _≤_};
 ghost use lib.ListN.{length, drop};
 ghost use Rattle.runs.specs.Letters.{letterOf};
 ghost use Rattle.steplines.specs.Fields.{isBlank, fields, begins, isWord};
-ghost use Rattle.steplines.specs.Numbers.{isDigit, allDigits, isNumber, smaller, largest, numberOf, wholeOf, decimalsOf, readingOf, degreesOf};
+ghost use Rattle.steplines.specs.Numbers.{isDigit, allDigits, isNumber, smaller, largest, numberOf, wholeOf, decimalsOf, angleIn, degreesOf};
 ghost use Rattle.steplines.specs.Walk.{belongs, runOf, FieldAt, withDecimal, withDecimals, mostWith, bySix};
 ghost use Rattle.steplines.specs.StepLine.{clockWith, clockOf, stepWith, stepOf, startWith, startOf, meaningOf};
 use arm::Reading;
@@ -236,9 +236,9 @@ fn by_six(minus: bool, after: u32, x: u64) -> Reading
     }
 }
 
-fn reading_of(minus: bool, whole: &[u8], decimals: &[u8]) -> Reading
+fn angle_in(minus: bool, whole: &[u8], decimals: &[u8]) -> Reading
     requires { ⌜ allDigits (now decimals) ≡ true ⌝ }
-    ensures { λ r. ⌜ r ≡ readingOf minus (now (whole .entry)) (now (decimals .entry)) ⌝ }
+    ensures { λ r. ⌜ r ≡ angleIn minus (now (whole .entry)) (now (decimals .entry)) ⌝ }
 {
     by_six(
         minus,
@@ -264,7 +264,7 @@ fn clock_with(minus: bool, whole: &[u8], decimals: &[u8]) -> Meaning
 {
     let some = (0 < whole.len()) | (0 < decimals.len());
     if some & (all_digits(whole) & all_digits(decimals)) {
-        Meaning::Take(Step::Clock(degrees_of(reading_of(minus, whole, decimals))))
+        Meaning::Take(Step::Clock(degrees_of(angle_in(minus, whole, decimals))))
     } else {
         Meaning::Wrong
     }

@@ -10,8 +10,8 @@ all-digits-requires c κs = search needs
 all-digits-requires-2 : tie.Need-all-digits-requires-2
 all-digits-requires-2 c κs = search needs
 
-reading-of-requires : tie.Need-reading-of-requires
-reading-of-requires c κs =
+angle-in-requires : tie.Need-angle-in-requires
+angle-in-requires c κs =
     let d = c .before in
     let a = d .before .before .before .before .args in
     clock-digits (a .minus) (a .whole .now) (a .decimals .now) _ _ (d .before .all-digits .ensures) (d .all-digits2 .ensures)
@@ -25,7 +25,7 @@ returns c =
     let d = c .before .before .before in
     let a = d .before .before .before .before .args in
     clock-read (a .minus) (a .whole .now) (a .decimals .now) _ _ (d .before .all-digits .ensures) (d .all-digits2 .ensures)
-    (c .before .before .if1 .taken) _ _ (c .before .reading-of .ensures) (c .degrees-of .ensures)
+    (c .before .before .if1 .taken) _ _ (c .before .angle-in .ensures) (c .degrees-of .ensures)
 
 returns-2 : tie.Need-returns-2
 returns-2 c =
@@ -40,7 +40,7 @@ clock-with-spec =
     (tie.spec
     all-digits-requires
     all-digits-requires-2
-    reading-of-requires
+    angle-in-requires
     degrees-of-requires
     returns
     returns-2)

@@ -1,11 +1,11 @@
--- `steplines::reading_of` meets its contract. Assumes nothing.
+-- `steplines::angle_in` meets its contract. Assumes nothing.
 use mathlib.Core.Path.{_∙_}
 use borrow.Author.Needs.{needs}
 use Rattle.steplines.specs.Numbers.{value, largest}
 use Rattle.steplines.proofs.Numbers.{smaller-most}
 use Rattle.steplines.proofs.Readings.{reading-six}
-use Rattle.steplines.proofs.reading_of.Statement.{statement}
-use Rattle.steplines.proofs.reading_of.Tie as tie
+use Rattle.steplines.proofs.angle_in.Statement.{statement}
+use Rattle.steplines.proofs.angle_in.Tie as tie
 
 after-six-requires : tie.Need-after-six-requires
 after-six-requires c κs = search needs
@@ -26,7 +26,7 @@ returns c =
     ∙ rw (d .before .after-six .ensures, c .before .with-six .ensures, d .number-of .ensures)
     (reading-six _ _ _ (d .before .before .before .before .pre))
 
-pub reading-of-spec : {M : Type 1} → statement M
-reading-of-spec =
+pub angle-in-spec : {M : Type 1} → statement M
+angle-in-spec =
     tie.close
     (tie.spec after-six-requires number-of-requires with-six-requires by-six-requires returns)
