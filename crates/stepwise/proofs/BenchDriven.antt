@@ -48,6 +48,7 @@ use Rattle.stepwise.specs.BenchCalls.{benchStarted, benchTrain, benchTic
 use Rattle.stepwise.specs.Driven.{BenchHoldable, wordsAfter, answersAfter, stepsOf, BenchDrives}
 use Rattle.stepwise.proofs.Words.{bench-length}
 use Rattle.stepwise.proofs.Calls.{lent-held, start-accepted}
+use Rattle.stepwise.proofs.Shown.{pose-shown, gate-shown}
 use Rattle.stepwise.proofs.Back.{bench-back}
 use Rattle.stepwise.proofs.Written.{motion-written, event-written}
 use Rattle.stepwise.proofs.Lists.{fresh-holdable, put-holdable, list-good, list-words, list-answers}
@@ -202,15 +203,20 @@ unfolding benchCalled
 bench-drives s accepted ws l xs =
     let started = start-words s ws accepted l in
     let good = fresh-good s in
-    let words = ap (λ (u : Called). wordsAfter benchCalled (u .words) xs) started
+    let last = benchAfter (freshBench s) (stepsOf xs) in
+    let words : wordsAfter benchCalled (benchStarted ws s .words) xs ≡ benchWords last = ap (λ (u : Called). wordsAfter benchCalled (u .words) xs) started
     ∙ list-words stepIn benchTakes benchWords benchNext benchAnswer BenchHoldable takes-words takes-holdable xs (freshBench s) good in
+    let holdable : BenchHoldable last = list-good stepIn benchTakes benchWords benchNext benchAnswer BenchHoldable takes-words takes-holdable xs (freshBench s) good in
+    let long = ap length words ∙ bench-length last (holdable .table .entries) in
+    let back = ap benchFrom words ∙ bench-back last holdable in
     record {
       started = ap (λ (u : Called). u .answer) started;
       words = words;
-      back = ap benchFrom words ∙ bench-back (benchAfter (freshBench s) (stepsOf xs))
-          (list-good stepIn benchTakes benchWords benchNext benchAnswer BenchHoldable takes-words takes-holdable xs (freshBench s) good);
+      back = back;
       answers = ap (λ (u : Called). answersAfter benchCalled (u .words) xs) started
           ∙ list-answers stepIn benchTakes benchWords benchNext benchAnswer BenchHoldable takes-words takes-holdable xs (freshBench s) good;
+      pose = λ old. pose-shown (wordsAfter benchCalled (benchStarted ws s .words) xs) last long back old;
+      gate = λ old. gate-shown (wordsAfter benchCalled (benchStarted ws s .words) xs) last long back old;
       demand = demand3 s accepted (stepsOf xs);
       kept = bench-always s (stepsOf xs);
       claims = claims s accepted;

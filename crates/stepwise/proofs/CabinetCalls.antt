@@ -32,7 +32,7 @@ use Rattle.runs.specs.Run.{orElse, orFull}
 use Rattle.stepwise.specs.declared.Named.{Named}
 use Rattle.stepwise.specs.declared.Named.the-variants.{As, Nothing}
 use Rattle.stepwise.specs.Words.{soonestAt, firstIn, tableFrom, settingsFrom, ticksFrom, controlFrom, cabinetFrom, cabinetWords}
-use Rattle.stepwise.specs.Calls.{Called, called, packedAnswer, answered, trainNumber, withControl, kindNamed}
+use Rattle.stepwise.specs.Calls.{Called, called, packedAnswer, answered, trainNumber, putControl, kindNamed}
 use Rattle.stepwise.specs.CabinetCalls.{cabinetStarted, cabinetTrain, cabinetHears, approaching, leaving, ticking, cabinetCalled}
 use Rattle.stepwise.proofs.Words.{entries-many, cabinet-length}
 use Rattle.stepwise.proofs.Calls.{lent-wrong, lent-there, answered-taken, answered-refused, named-kind, named-none, start-taken, start-refused}
@@ -125,14 +125,14 @@ clock-wrong ws r n e = lent-wrong 405 ws 0 _ r n e
 
 module _ (ws : List ℕ) (l : length ws ≡ 405) (s : Settings) (ticks : Ticks) (f : First) (w : Control) (es : s ≡ settingsFrom ws) (et : ticks ≡ ticksFrom ws)
     (ef : f ≡ firstIn ws soonestAt) (ew : w ≡ controlFrom ws) (t : Controlled) (is : t ≡ ticked s ticks f w) (r : ℕ) (packed : r ≡ packedAnswer (t .answer)) where
-  clock-called : (x : Called) → x ≡ answered (t .answer) (withControl ws (t .control)) ws → x ≡ cabinetCalled ws ticking
+  clock-called : (x : Called) → x ≡ answered (t .answer) (putControl ws (t .control)) ws → x ≡ cabinetCalled ws ticking
   unfolding cabinetCalled cabinetHears cabinetFrom clocked
   clock-called x e =
       let words : t ≡ ticked (settingsFrom ws) (ticksFrom ws) (firstIn ws soonestAt) (controlFrom ws) = is ∙ rw (es, et, ef, ew) in
-      lent-there 405 ws 0 _ x l (e ∙ ap (λ (u : Controlled). answered (u .answer) (withControl ws (u .control)) ws) words)
+      lent-there 405 ws 0 _ x l (e ∙ ap (λ (u : Controlled). answered (u .answer) (putControl ws (u .control)) ws) words)
 
-  pub clock-taken : (o : Order) (after : List ℕ) → t .answer ≡ Taken o → after ≡ withControl ws (t .control) → called r after ≡ cabinetCalled ws ticking
-  clock-taken o after a e = clock-called (called r after) (answered-taken (t .answer) (withControl ws (t .control)) ws r packed o after a e)
+  pub clock-taken : (o : Order) (after : List ℕ) → t .answer ≡ Taken o → after ≡ putControl ws (t .control) → called r after ≡ cabinetCalled ws ticking
+  clock-taken o after a e = clock-called (called r after) (answered-taken (t .answer) (putControl ws (t .control)) ws r packed o after a e)
 
   pub clock-refused : (k : ℕ) → t .answer ≡ Refused k → called r ws ≡ cabinetCalled ws ticking
-  clock-refused k a = clock-called (called r ws) (answered-refused (t .answer) (withControl ws (t .control)) ws r packed k a)
+  clock-refused k a = clock-called (called r ws) (answered-refused (t .answer) (putControl ws (t .control)) ws r packed k a)

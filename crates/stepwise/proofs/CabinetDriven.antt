@@ -1,7 +1,7 @@
 -- The words of a cabinet that only calls change, over every list of calls. Assumes nothing.
 use Prim.Native.Nat.{ℕ, _<_}
 use native.Mathlib.Omega.{arith}
-use mathlib.Core.Path.{_≡_, refl, sym, ap, _∙_}
+use mathlib.Core.Path.{_≡_, refl, ap, _∙_}
 use mathlib.Core.Bool.{Bool, true, false, cond}
 use mathlib.Core.List.{List, [], append-nil}
 use lib.Dec.{leb}
@@ -32,13 +32,9 @@ use Rattle.stepwise.specs.Driven.{Holdable, wordsAfter, answersAfter, he
 use Rattle.stepwise.proofs.Words.{cabinet-length}
 use Rattle.stepwise.proofs.Calls.{lent-held, start-accepted}
 use Rattle.stepwise.proofs.CabinetCalls.{approach-place, leave-place}
-use Rattle.stepwise.proofs.Back.{cabinet-back}
+use Rattle.stepwise.proofs.Back.{read-back}
 use Rattle.stepwise.proofs.Written.{control-written, step-written}
 use Rattle.stepwise.proofs.Lists.{fresh-holdable, put-holdable, list-good, list-words, list-answers}
-
--- its words are read as the cabinet
-pub read-back : (c : Cabinet) → Holdable (c .table) → cabinetFrom (cabinetWords c) ≡ c
-read-back c h = ap cabinetFrom (sym (append-nil (cabinetWords c))) ∙ cabinet-back c [] h
 
 module _ (c : Cabinet) (h : Holdable (c .table)) where
   -- the words of what a step gives

@@ -14,7 +14,7 @@ use Rattle.cabinet.specs.declared.Cabinet.{Cabinet}
 use Rattle.bench.specs.declared.Bench.{Bench}
 use Rattle.bench.specs.declared.Motion.{Motion}
 use Rattle.stepwise.specs.Words.{entryWords, entriesWords, firstWords, cabinetWords, cabinetIn, armWords, benchWords}
-use Rattle.stepwise.specs.Calls.{withControl, withMotion, withEntry}
+use Rattle.stepwise.specs.Calls.{putControl, putMotion, putStep}
 use Rattle.stepwise.proofs.Words.{entries-length, entries-append, cabinet-length}
 
 -- ---- a part of a list written over by one that is as long
@@ -57,7 +57,7 @@ module _ (c : Cabinet) (rest : List ℕ) (w : Control) where
   abbrev pub clockedTo : Cabinet
   clockedTo = record { settings = c .settings; ticks = c .ticks; control = w; soonest = c .soonest; table = c .table }
 
-  pub control-written : withControl (cabinetWords c ++ rest) w ≡ cabinetWords clockedTo ++ rest
+  pub control-written : putControl (cabinetWords c ++ rest) w ≡ cabinetWords clockedTo ++ rest
   unfolding cabinetWords
   control-written = refl
 
@@ -66,7 +66,7 @@ module _ (c : Cabinet) (rest : List ℕ) (w : Control) where
   steppedTo f place e =
       record { settings = c .settings; ticks = c .ticks; control = w; soonest = f; table = record { places = set (c .table .places) place e } }
 
-  pub step-written : (f : First) (place : ℕ) (e : Entry) → place < length (c .table .places) → withEntry (cabinetWords c ++ rest) w f place e ≡ cabinetWords (steppedTo f place e) ++ rest
+  pub step-written : (f : First) (place : ℕ) (e : Entry) → place < length (c .table .places) → putStep (cabinetWords c ++ rest) w f place e ≡ cabinetWords (steppedTo f place e) ++ rest
   unfolding cabinetWords
   step-written f place e h = entry-written (take 21 (cabinetWords (steppedTo f place e))) rest (c .table .places) place h e (21 + 4 * place) refl
 
@@ -74,7 +74,7 @@ module _ (c : Cabinet) (rest : List ℕ) (w : Control) where
 
 module _ (b : Bench) (many : length (b .table .places) ≡ 96) where
   -- the arm, after the clock and the command
-  pub motion-written : (m : Motion) → withMotion (benchWords b) m
+  pub motion-written : (m : Motion) → putMotion (benchWords b) m
       ≡ benchWords (record { head = record { settings = b .head .settings; ticks = b .head .ticks; motion = m; soonest = b .head .soonest; latest = b .head .latest }; table = b .table })
   unfolding benchWords
   motion-written m =
@@ -86,7 +86,7 @@ module _ (b : Bench) (many : length (b .table .places) ≡ 96) where
 
   -- an event that leaves the arm: an entry, and who is first
   pub event-written : (w : Control) (soonest latest : First) (place : ℕ) (e : Entry) → place < 96 →
-      splice (withEntry (benchWords b) w soonest place e) 407 (firstWords latest)
+      splice (putStep (benchWords b) w soonest place e) 407 (firstWords latest)
       ≡ benchWords (record {
         head =
             record {

@@ -1,7 +1,8 @@
 -- One call a step, on words that the caller lends: how it answers, and what words it changes.
 -- A call whose words are not as many as they should be is refused, 14 last, after the number that is found without them; an approach whose letter is not the
 -- record's A, B, E or F is no step, and is refused before all else, 15. A refusal keeps every word. Assumes nothing.
-use Prim.Native.Nat.{ℕ, _+_, _*_}
+use Prim.Native.Nat.{ℕ, _+_, _*_, _/_, _%_, _<_}
+use mathlib.Core.Path.{_≡_}
 use mathlib.Core.Bool.{cond, not}
 use mathlib.Core.List.{List}
 use mathlib.Core.Option.{Option, none, some}
@@ -43,6 +44,16 @@ called answer words = record { answer = answer; words = words }
 abbrev pub packedAnswer : Answer → ℕ
 packedAnswer a = numberOf a + 256 * answerByte a + 65536 * answerTrain a
 
+-- taken apart again: the number below 256, the letter below the next 256, and the train
+pub record Unpacked (a : Answer) : Type 0 where
+  pub number : packedAnswer a % 256 ≡ numberOf a
+  pub letter : packedAnswer a / 256 % 256 ≡ answerByte a
+  pub train : packedAnswer a / 65536 ≡ answerTrain a
+
+-- so is every answer whose number fits a byte, as all do
+abbrev pub Unpacks : Type 0
+Unpacks = (a : Answer) → numberOf a < 256 → Unpacked a
+
 -- the new words where a step is taken; a refusal keeps every word
 abbrev pub whereTaken : Answer → List ℕ → List ℕ → List ℕ
 whereTaken (Taken o) new ws = new
@@ -68,20 +79,20 @@ startedBy k new ws = called k (unless k (λ j. ws) new)
 -- ---- what a step that is taken writes
 
 -- a clock step: instant and command
-abbrev pub withControl : List ℕ → Control → List ℕ
-withControl ws w = splice ws controlAt (controlWords w)
+abbrev pub putControl : List ℕ → Control → List ℕ
+putControl ws w = splice ws controlAt (controlWords w)
 
 -- a bench's, the arm too
-abbrev pub withMotion : List ℕ → Motion → List ℕ
-withMotion ws m = splice (withControl ws (m .control)) armAt (armWords (m .angle) (m .previous))
+abbrev pub putMotion : List ℕ → Motion → List ℕ
+putMotion ws m = splice (putControl ws (m .control)) armAt (armWords (m .angle) (m .previous))
 
 -- a train's step: instant and command, the soonest train, and the entry at the train's place
-abbrev pub withEntry : List ℕ → Control → First → ℕ → Entry → List ℕ
-withEntry ws w soonest place e = splice (splice (withControl ws w) soonestAt (firstWords soonest)) (placeAt place) (entryWords e)
+abbrev pub putStep : List ℕ → Control → First → ℕ → Entry → List ℕ
+putStep ws w soonest place e = splice (splice (putControl ws w) soonestAt (firstWords soonest)) (placeAt place) (entryWords e)
 
 -- a bench's, the train that is first at its latest too
-abbrev pub withEvent : List ℕ → Head → ℕ → Entry → List ℕ
-withEvent ws h place e = splice (withEntry ws (h .motion .control) (h .soonest) place e) latestAt (firstWords (h .latest))
+abbrev pub putEvent : List ℕ → Head → ℕ → Entry → List ℕ
+putEvent ws h place e = splice (putStep ws (h .motion .control) (h .soonest) place e) latestAt (firstWords (h .latest))
 
 -- the entry at a place
 abbrev pub entryThere : Table → ℕ → Entry

@@ -1,8 +1,7 @@
-// A cabinet and a bench in words that the caller lends, one call a step. A clock step reads and writes the words beside the table alone; a train's step
-// reads the table, and writes the words of one entry.
+// A cabinet and a bench in words that the caller lends, one call a step. A clock step reads and writes words beside the table alone; a
+// train's step reads the table, and writes the words of one entry.
 ghost use Prim.Native.Nat.{_+_, _<_, _≤_};
 ghost use mathlib.Core.Path.{_≡_};
-ghost use mathlib.Core.Bool.{not};
 ghost use mathlib.Core.List.{[], _∷_, _++_};
 ghost use lib.ListN.{length};
 ghost use Rattle.lines.specs.Bytes.{splice};
@@ -12,10 +11,11 @@ ghost use Rattle.cabinet.specs.declared.Answer.the-variants.{Taken};
 ghost use Rattle.cabinet.specs.declared.Order.{Order};
 ghost use Rattle.runs.specs.Letters.{letterOf};
 ghost use Rattle.runs.specs.Run.{orElse};
-ghost use Rattle.stepwise.specs.Words.{tableAt, placeAt, cabinetLength, benchLength, commandFrom, commandNumber, kindFrom, kindAs, standingFrom, standingNumber, entryFrom, entryWords, tableFrom};
-ghost use Rattle.stepwise.specs.Words.{entriesWords, firstIn, firstWords, settingsFrom, ticksFrom, ticksWords, controlFrom, controlWords, cabinetFrom};
-ghost use Rattle.stepwise.specs.Words.{cabinetWords, headFrom, armWords, benchWords};
-ghost use Rattle.stepwise.specs.Calls.{called, packedAnswer, trainNumber, withControl, withMotion, withEntry, withEvent, kindNamed};
+ghost use Rattle.stepwise.specs.Words.{tableAt, placeAt, cabinetLength, benchLength, commandFrom, commandNumber, kindFrom, kindAs};
+ghost use Rattle.stepwise.specs.Words.{standingFrom, standingNumber, entryFrom, entryWords, tableFrom, entriesWords, firstIn};
+ghost use Rattle.stepwise.specs.Words.{firstWords, settingsFrom, ticksFrom, ticksWords, controlFrom, cabinetFrom, cabinetWords};
+ghost use Rattle.stepwise.specs.Words.{headFrom, benchWords};
+ghost use Rattle.stepwise.specs.Calls.{called, packedAnswer, trainNumber, putControl, putMotion, putStep, putEvent, kindNamed};
 ghost use Rattle.stepwise.specs.CabinetCalls as cabinetCall;
 ghost use Rattle.stepwise.specs.CabinetCalls.{cabinetStarted, cabinetTrain, cabinetCalled};
 ghost use Rattle.stepwise.specs.BenchCalls as benchCall;
@@ -285,7 +285,7 @@ fn put_four(words: &mut [u32], at: usize, a: u32, b: u32, c: u32, d: u32)
 
 fn put_control(words: &mut [u32], w: Control)
     requires { ⌜ cabinetLength ≤ length (now words) ⌝ }
-    ensures { λ _. ⌜ now (words .exit) ≡ withControl (now (words .entry)) w ⌝ }
+    ensures { λ _. ⌜ now (words .exit) ≡ putControl (now (words .entry)) w ⌝ }
 {
     let command = w.command;
     put_two(words, CONTROL, w.now, command_number(command));
@@ -293,7 +293,7 @@ fn put_control(words: &mut [u32], w: Control)
 
 fn put_motion(words: &mut [u32], m: Motion)
     requires { ⌜ benchLength ≤ length (now words) ⌝ }
-    ensures { λ _. ⌜ now (words .exit) ≡ withMotion (now (words .entry)) m ⌝ }
+    ensures { λ _. ⌜ now (words .exit) ≡ putMotion (now (words .entry)) m ⌝ }
 {
     put_control(words, m.control);
     put_two(words, ARM, m.angle as u32, m.previous as u32);
@@ -403,7 +403,7 @@ fn put_bench(words: &mut [u32], b: Bench)
 // What a train's step changes of a cabinet: instant and command, the soonest train, and the entry at the train's place.
 fn put_step(words: &mut [u32], w: Control, soonest: First, place: usize, e: Entry)
     requires { ⌜ (cabinetLength ≤ length (now words)) × (place < 96) ⌝ }
-    ensures { λ _. ⌜ now (words .exit) ≡ withEntry (now (words .entry)) w soonest place e ⌝ }
+    ensures { λ _. ⌜ now (words .exit) ≡ putStep (now (words .entry)) w soonest place e ⌝ }
 {
     put_control(words, w);
     put_first(words, SOONEST, soonest);
@@ -413,7 +413,7 @@ fn put_step(words: &mut [u32], w: Control, soonest: First, place: usize, e: Entr
 // And of a bench: the train that is first at its latest too.
 fn put_event(words: &mut [u32], h: Head, place: usize, e: Entry)
     requires { ⌜ (benchLength ≤ length (now words)) × (place < 96) ⌝ }
-    ensures { λ _. ⌜ now (words .exit) ≡ withEvent (now (words .entry)) h place e ⌝ }
+    ensures { λ _. ⌜ now (words .exit) ≡ putEvent (now (words .entry)) h place e ⌝ }
 {
     let soonest = h.soonest;
     let latest = h.latest;
@@ -510,8 +510,8 @@ fn settle(words: &mut [u32], place: usize, m: Stepped) -> u64
     }
 }
 
-// A train approaches, by the record's letter of its kind (`cabinet::Cabinet::approach`). 15 first, another letter; refusals 5, 6 and 17; 14 last, where
-// there are not 405 words.
+// A train approaches, by the record's letter of its kind (`cabinet::Cabinet::approach`). 15 first, another letter; refusals 5, 6 and 17;
+// 14 last, where there are not 405 words.
 pub fn cabinet_approach(words: &mut [u32], letter: u8, n: u32) -> u64
     ensures { λ r. ⌜ called r (now (words .exit)) ≡ cabinetCalled (now (words .entry)) (cabinetCall.approaching letter n) ⌝ }
 {
@@ -600,7 +600,8 @@ fn bench_event(words: &mut [u32], e: Event, n: u32) -> u64
     }
 }
 
-// A train approaches, by the record's letter of its kind. 15 first, another letter; refusals 5, 6 and 17; 14 last, where there are not 411 words.
+// A train approaches, by the record's letter of its kind. 15 first, another letter; refusals 5, 6 and 17; 14 last, where there are not 411
+// words.
 pub fn bench_approach(words: &mut [u32], letter: u8, n: u32) -> u64
     ensures { λ r. ⌜ called r (now (words .exit)) ≡ benchCalled (now (words .entry)) (benchCall.approaching letter n) ⌝ }
 {
@@ -647,8 +648,8 @@ pub fn bench_clock(words: &mut [u32], reading: f32) -> u64
 
 // ---- what the bench shows
 
-// The pose in the first two places of `pose`: the angle and its change over the last clock step, in degrees. 0, or 14 where there are not 411 words or
-// fewer than two places.
+// The pose in the first two places of `pose`: the angle and its change over the last clock step, in degrees. 0, or 14 where there are not
+// 411 words or fewer than two places.
 pub fn bench_pose(words: &[u32], pose: &mut [f32]) -> u64
     ensures { λ r. ⌜ showed r (now (pose .exit)) ≡ poseShown (now (words .entry)) (now (pose .entry)) ⌝ }
 {
@@ -677,8 +678,8 @@ pub fn gate_number(gate: Gate) -> u32
     }
 }
 
-// 256 times the gate, and in the first place of `angle` that of a gate that falls or rises, in degrees; up and down leave it. 14 where there are not 411
-// words or no place.
+// 256 times the gate, and in the first place of `angle` that of a gate that falls or rises, in degrees; up and down leave it. 14 where
+// there are not 411 words or no place.
 pub fn bench_gate(words: &[u32], angle: &mut [f32]) -> u64
     ensures { λ r. ⌜ showed r (now (angle .exit)) ≡ gateShown (now (words .entry)) (now (angle .entry)) ⌝ }
 {
