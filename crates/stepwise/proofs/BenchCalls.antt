@@ -19,7 +19,7 @@ use Rattle.trains.specs.declared.Table.{Table}
 use Rattle.trains.specs.Table.{awayEntry, freshTable, placeFor}
 use Rattle.cabinet.specs.declared.Order.{Order}
 use Rattle.cabinet.specs.declared.Answer.the-variants.{Taken, Refused}
-use Rattle.cabinet.specs.Cabinet.{numberOf}
+use Rattle.cabinet.specs.Cabinet.{numberOf, orderOf}
 use Rattle.bench.specs.declared.Event.{Event}
 use Rattle.bench.specs.declared.Event.the-variants as events
 use Rattle.bench.specs.declared.Head.{Head}
@@ -36,10 +36,10 @@ use Rattle.runs.proofs.Turns.{sensed-answer, sensed-taken}
 use Rattle.stepwise.specs.declared.Named.{Named}
 use Rattle.stepwise.specs.declared.Named.the-variants.{As, Nothing}
 use Rattle.stepwise.specs.Words.{tableFrom, headFrom, benchFrom, benchWords}
-use Rattle.stepwise.specs.Calls.{Called, called, packedAnswer, answered, trainNumber, withMotion, withEvent, entryThere, kindNamed}
+use Rattle.stepwise.specs.Calls.{Called, called, packedAnswer, answered, trainNumber, putMotion, putEvent, entryThere, kindNamed}
 use Rattle.stepwise.specs.BenchCalls.{benchStarted, benchTrain, benchSenses, benchTakes, approaching, ticking, benchCalled}
 use Rattle.stepwise.proofs.Words.{entries-many, bench-length}
-use Rattle.stepwise.proofs.Calls.{lent-wrong, lent-there, answered-taken, answered-refused, named-kind, named-none, start-taken, start-refused}
+use Rattle.stepwise.proofs.Calls.{lent-wrong, lent-there, answered-taken, answered-refused, order-taken, named-kind, named-none, start-taken, start-refused}
 
 -- ---- the start
 
@@ -85,14 +85,14 @@ module _ (ws : List ℕ) (l : length ws ≡ 411) (b : Bench) (eb : b ≡ benchFr
   unfolding benchSenses benchFrom
   event-called x w = lent-there 411 ws (trainNumber n) _ x l (w ∙ ap (λ (d : Bench). benchTrain ws (placeFor (d .table) n) (sensed d e n)) eb)
 
-  pub event-taken : (o : Order) (after : List ℕ) → h .answer ≡ Taken o → a .place < 96 → after ≡ withEvent ws (h .head) (a .place) (h .entry) → called r after ≡ benchSenses ws e n
+  pub event-taken : (o : Order) (after : List ℕ) → h .answer ≡ Taken o → a .place < 96 → after ≡ putEvent ws (h .head) (a .place) (h .entry) → called r after ≡ benchSenses ws e n
   unfolding benchFrom
   event-taken o after t there w =
       let many : length (b .table .places) ≡ 96 = ap (λ (d : Bench). length (d .table .places)) eb ∙ entries-many ws 21 96 in
       let place : a .place ≡ placeFor (b .table) n = ap (λ (x : Asked). x .place) ea in
       let entry = getD-set-same (b .table .places) (placeFor (b .table) n) (h .entry) awayEntry (omega arith) in
       let after-is = sensed-taken b e n h sense-is o t in
-      let words : withEvent ws (h .head) (a .place) (h .entry) ≡ withEvent ws (sensed b e n .bench .head) (placeFor (b .table) n) (entryThere (sensed b e n .bench .table) (placeFor (b .table) n))
+      let words : putEvent ws (h .head) (a .place) (h .entry) ≡ putEvent ws (sensed b e n .bench .head) (placeFor (b .table) n) (entryThere (sensed b e n .bench .table) (placeFor (b .table) n))
       = rw (after-is, entry, place) in
       event-called (called r after) (answered-taken (sensed b e n .answer) _ ws r packed-is o after (answer-is ∙ t) (w ∙ words))
 
@@ -118,15 +118,15 @@ unfolding benchCalled benchTakes
 clock-wrong ws reading read own r n p q e = lent-wrong 411 ws (arm.numberOf (readingOf reading)) _ r n (e ∙ rw (q, p))
 
 module _ (ws : List ℕ) (l : length ws ≡ 411) (reading : Float) (h : Head) (read : Reading) (eh : h ≡ headFrom ws) (er : read ≡ readingOf reading)
-    (t : Ticked) (is : t ≡ headTicked h read) (r : ℕ) (packed : r ≡ packedAnswer (t .answer)) where
-  clock-called : (x : Called) → x ≡ answered (t .answer) (withMotion ws (t .motion)) ws → x ≡ benchCalled ws (ticking reading)
+    (t : Ticked) (is : t ≡ headTicked h read) where
+  clock-called : (x : Called) → x ≡ answered (t .answer) (putMotion ws (orderOf (t .answer)) (t .motion)) ws → x ≡ benchCalled ws (ticking reading)
   unfolding benchCalled benchTakes benchFrom clockRead
   clock-called x e =
       let words : t ≡ headTicked (headFrom ws) (readingOf reading) = is ∙ rw (eh, er) in
-      lent-there 411 ws (arm.numberOf (readingOf reading)) _ x l (e ∙ ap (λ (u : Ticked). answered (u .answer) (withMotion ws (u .motion)) ws) words)
+      lent-there 411 ws (arm.numberOf (readingOf reading)) _ x l (e ∙ ap (λ (u : Ticked). answered (u .answer) (putMotion ws (orderOf (u .answer)) (u .motion)) ws) words)
 
-  pub clock-taken : (o : Order) (after : List ℕ) → t .answer ≡ Taken o → after ≡ withMotion ws (t .motion) → called r after ≡ benchCalled ws (ticking reading)
-  clock-taken o after a e = clock-called (called r after) (answered-taken (t .answer) (withMotion ws (t .motion)) ws r packed o after a e)
+  pub clock-taken : (o : Order) (x : Called) → t .answer ≡ Taken o → x ≡ called (packedAnswer (Taken o)) (putMotion ws o (t .motion)) → x ≡ benchCalled ws (ticking reading)
+  clock-taken o x a e = clock-called x (e ∙ order-taken (t .answer) (λ p. putMotion ws p (t .motion)) ws o a)
 
-  pub clock-refused : (k : ℕ) → t .answer ≡ Refused k → called r ws ≡ benchCalled ws (ticking reading)
-  clock-refused k a = clock-called (called r ws) (answered-refused (t .answer) (withMotion ws (t .motion)) ws r packed k a)
+  pub clock-refused : (k r : ℕ) → t .answer ≡ Refused k → r ≡ packedAnswer (t .answer) → called r ws ≡ benchCalled ws (ticking reading)
+  clock-refused k r a packed = clock-called (called r ws) (answered-refused (t .answer) (putMotion ws (orderOf (t .answer)) (t .motion)) ws r packed k a)

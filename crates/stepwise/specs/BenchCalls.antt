@@ -10,6 +10,7 @@ use Rattle.settings.specs.Settings.{settingsRefusal}
 use Rattle.arm.specs.Shown as arm
 use Rattle.arm.specs.Shown.{readingOf}
 use Rattle.trains.specs.Table.{placeFor}
+use Rattle.cabinet.specs.Cabinet.{orderOf}
 use Rattle.bench.specs.declared.Event.{Event}
 use Rattle.bench.specs.declared.Event.the-variants as events
 use Rattle.bench.specs.declared.Moved.{Moved}
@@ -19,7 +20,7 @@ use Rattle.runs.specs.declared.Step.the-variants as step
 use Rattle.runs.specs.Letters.{letterOf}
 use Rattle.runs.specs.Run.{orFull}
 use Rattle.stepwise.specs.Words.{benchLength, tableFrom, benchFrom, benchWords}
-use Rattle.stepwise.specs.Calls.{Called, answered, lent, trainNumber, startedBy, withMotion, withEvent, entryThere, kindNamed, ofKind, orNoStep}
+use Rattle.stepwise.specs.Calls.{Called, answered, lent, trainNumber, startedBy, putMotion, putEvent, entryThere, kindNamed, ofKind, orNoStep}
 
 unfoldable pub benchStarted : List ℕ → Settings → Called
 benchStarted ws s = startedBy (orFull (settingsRefusal s) (eqb (length ws) benchLength)) (benchWords (freshBench s)) ws
@@ -27,10 +28,10 @@ benchStarted ws s = startedBy (orFull (settingsRefusal s) (eqb (length ws) bench
 -- ---- the bench
 
 abbrev pub benchTrain : List ℕ → ℕ → Moved → Called
-benchTrain ws place m = answered (m .answer) (withEvent ws (m .bench .head) place (entryThere (m .bench .table) place)) ws
+benchTrain ws place m = answered (m .answer) (putEvent ws (m .bench .head) place (entryThere (m .bench .table) place)) ws
 
 abbrev pub benchTicked : List ℕ → Moved → Called
-benchTicked ws m = answered (m .answer) (withMotion ws (m .bench .head .motion)) ws
+benchTicked ws m = answered (m .answer) (putMotion ws (orderOf (m .answer)) (m .bench .head .motion)) ws
 
 -- a sensor's event of train n
 unfoldable pub benchSenses : List ℕ → Event → ℕ → Called

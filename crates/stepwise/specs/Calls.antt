@@ -3,7 +3,7 @@
 -- record's A, B, E or F is no step, and is refused before all else, 15. A refusal keeps every word. Assumes nothing.
 use Prim.Native.Nat.{ℕ, _+_, _*_}
 use mathlib.Core.Bool.{cond, not}
-use mathlib.Core.List.{List}
+use mathlib.Core.List.{List, [], _∷_}
 use mathlib.Core.Option.{Option, none, some}
 use lib.Dec.{eqb}
 use lib.ListN.{length, getD}
@@ -17,6 +17,8 @@ use Rattle.trains.specs.Trains.{isTrain}
 use Rattle.trains.specs.Table.{awayEntry}
 use Rattle.cabinet.specs.declared.Answer.{Answer}
 use Rattle.cabinet.specs.declared.Answer.the-variants.{Taken, Refused}
+use Rattle.cabinet.specs.declared.Order.{Order}
+use Rattle.cabinet.specs.declared.Order.the-variants as order
 use Rattle.cabinet.specs.declared.Control.{Control}
 use Rattle.cabinet.specs.Cabinet.{numberOf}
 use Rattle.bench.specs.declared.Event.the-variants as events
@@ -67,21 +69,30 @@ startedBy k new ws = called k (unless k (λ j. ws) new)
 
 -- ---- what a step that is taken writes
 
--- a clock step: instant and command
-abbrev pub withControl : List ℕ → Control → List ℕ
-withControl ws w = splice ws controlAt (controlWords w)
+-- a clock step: the instant, and the command where one is given
+abbrev pub clockWords : Order → Control → List ℕ
+clockWords order.Nothing w = w .now ∷ []
+clockWords (order.Lower n) w = controlWords w
+clockWords order.Raise w = controlWords w
+
+abbrev pub putClock : List ℕ → Order → Control → List ℕ
+putClock ws o w = splice ws controlAt (clockWords o w)
 
 -- a bench's, the arm too
-abbrev pub withMotion : List ℕ → Motion → List ℕ
-withMotion ws m = splice (withControl ws (m .control)) armAt (armWords (m .angle) (m .previous))
+abbrev pub putMotion : List ℕ → Order → Motion → List ℕ
+putMotion ws o m = putClock (splice ws armAt (armWords (m .angle) (m .previous))) o (m .control)
 
--- a train's step: instant and command, the soonest train, and the entry at the train's place
-abbrev pub withEntry : List ℕ → Control → First → ℕ → Entry → List ℕ
-withEntry ws w soonest place e = splice (splice (withControl ws w) soonestAt (firstWords soonest)) (placeAt place) (entryWords e)
+-- instant and command
+abbrev pub putControl : List ℕ → Control → List ℕ
+putControl ws w = splice ws controlAt (controlWords w)
+
+-- a train's step: these, the soonest train, and the entry at the train's place
+abbrev pub putStep : List ℕ → Control → First → ℕ → Entry → List ℕ
+putStep ws w soonest place e = splice (splice (putControl ws w) soonestAt (firstWords soonest)) (placeAt place) (entryWords e)
 
 -- a bench's, the train that is first at its latest too
-abbrev pub withEvent : List ℕ → Head → ℕ → Entry → List ℕ
-withEvent ws h place e = splice (withEntry ws (h .motion .control) (h .soonest) place e) latestAt (firstWords (h .latest))
+abbrev pub putEvent : List ℕ → Head → ℕ → Entry → List ℕ
+putEvent ws h place e = splice (putStep ws (h .motion .control) (h .soonest) place e) latestAt (firstWords (h .latest))
 
 -- the entry at a place
 abbrev pub entryThere : Table → ℕ → Entry

@@ -15,7 +15,7 @@ ghost use Rattle.runs.specs.Run.{orElse};
 ghost use Rattle.stepwise.specs.Words.{tableAt, placeAt, cabinetLength, benchLength, commandFrom, commandNumber, kindFrom, kindAs, standingFrom, standingNumber, entryFrom, entryWords, tableFrom};
 ghost use Rattle.stepwise.specs.Words.{entriesWords, firstIn, firstWords, settingsFrom, ticksFrom, ticksWords, controlFrom, controlWords, cabinetFrom};
 ghost use Rattle.stepwise.specs.Words.{cabinetWords, headFrom, armWords, benchWords};
-ghost use Rattle.stepwise.specs.Calls.{called, packedAnswer, trainNumber, withControl, withMotion, withEntry, withEvent, kindNamed};
+ghost use Rattle.stepwise.specs.Calls.{called, packedAnswer, trainNumber, putClock, putControl, putMotion, putStep, putEvent, kindNamed};
 ghost use Rattle.stepwise.specs.CabinetCalls as cabinetCall;
 ghost use Rattle.stepwise.specs.CabinetCalls.{cabinetStarted, cabinetTrain, cabinetCalled};
 ghost use Rattle.stepwise.specs.BenchCalls as benchCall;
@@ -31,6 +31,7 @@ use bench::Motion;
 use cabinet::Answer;
 use cabinet::Cabinet;
 use cabinet::Control;
+use cabinet::Order;
 use cabinet::Stepped;
 use runs::Letter;
 use settings::Kind;
@@ -285,18 +286,10 @@ fn put_four(words: &mut [u32], at: usize, a: u32, b: u32, c: u32, d: u32)
 
 fn put_control(words: &mut [u32], w: Control)
     requires { ⌜ cabinetLength ≤ length (now words) ⌝ }
-    ensures { λ _. ⌜ now (words .exit) ≡ withControl (now (words .entry)) w ⌝ }
+    ensures { λ _. ⌜ now (words .exit) ≡ putControl (now (words .entry)) w ⌝ }
 {
     let command = w.command;
     put_two(words, CONTROL, w.now, command_number(command));
-}
-
-fn put_motion(words: &mut [u32], m: Motion)
-    requires { ⌜ benchLength ≤ length (now words) ⌝ }
-    ensures { λ _. ⌜ now (words .exit) ≡ withMotion (now (words .entry)) m ⌝ }
-{
-    put_control(words, m.control);
-    put_two(words, ARM, m.angle as u32, m.previous as u32);
 }
 
 fn put_first(words: &mut [u32], at: usize, f: First)
@@ -403,7 +396,7 @@ fn put_bench(words: &mut [u32], b: Bench)
 // What a train's step changes of a cabinet: instant and command, the soonest train, and the entry at the train's place.
 fn put_step(words: &mut [u32], w: Control, soonest: First, place: usize, e: Entry)
     requires { ⌜ (cabinetLength ≤ length (now words)) × (place < 96) ⌝ }
-    ensures { λ _. ⌜ now (words .exit) ≡ withEntry (now (words .entry)) w soonest place e ⌝ }
+    ensures { λ _. ⌜ now (words .exit) ≡ putStep (now (words .entry)) w soonest place e ⌝ }
 {
     put_control(words, w);
     put_first(words, SOONEST, soonest);
@@ -413,7 +406,7 @@ fn put_step(words: &mut [u32], w: Control, soonest: First, place: usize, e: Entr
 // And of a bench: the train that is first at its latest too.
 fn put_event(words: &mut [u32], h: Head, place: usize, e: Entry)
     requires { ⌜ (benchLength ≤ length (now words)) × (place < 96) ⌝ }
-    ensures { λ _. ⌜ now (words .exit) ≡ withEvent (now (words .entry)) h place e ⌝ }
+    ensures { λ _. ⌜ now (words .exit) ≡ putEvent (now (words .entry)) h place e ⌝ }
 {
     let soonest = h.soonest;
     let latest = h.latest;
@@ -431,6 +424,36 @@ fn pack(a: Answer) -> u64
     let letter = runs::order_byte(a) as u64;
     let train = runs::order_train(a) as u64;
     number + 256 * letter + 65536 * train
+}
+
+// A clock step that is taken: the instant, and the command where one is given; what it answers.
+fn settle_clock(words: &mut [u32], o: Order, w: Control) -> u64
+    requires { ⌜ cabinetLength ≤ length (now words) ⌝ }
+    ensures { λ r. ⌜ called r (now (words .exit)) ≡ called (packedAnswer (Taken o)) (putClock (now (words .entry)) o w) ⌝ }
+{
+    match o {
+        Order::Nothing => {
+            words[CONTROL] = w.now;
+            0
+        }
+        Order::Lower(_) => {
+            put_control(words, w);
+            pack(Answer::Taken(o))
+        }
+        Order::Raise => {
+            put_control(words, w);
+            pack(Answer::Taken(o))
+        }
+    }
+}
+
+// A bench's: the arm too.
+fn settle_motion(words: &mut [u32], o: Order, m: Motion) -> u64
+    requires { ⌜ benchLength ≤ length (now words) ⌝ }
+    ensures { λ r. ⌜ called r (now (words .exit)) ≡ called (packedAnswer (Taken o)) (putMotion (now (words .entry)) o m) ⌝ }
+{
+    put_two(words, ARM, m.angle as u32, m.previous as u32);
+    settle_clock(words, o, m.control)
 }
 
 // Where the words are not as many as they should be: the number that is found without them, or 14.
@@ -554,10 +577,7 @@ pub fn cabinet_clock(words: &mut [u32]) -> u64
     let w = cabinet::tick(s, ticks, soonest, control_from(words));
     let answer = w.answer;
     match answer {
-        Answer::Taken(_) => {
-            put_control(words, w.control);
-            pack(answer)
-        }
+        Answer::Taken(o) => settle_clock(words, o, w.control),
         Answer::Refused(_) => pack(answer),
     }
 }
@@ -637,10 +657,7 @@ pub fn bench_clock(words: &mut [u32], reading: f32) -> u64
     let m = head.tick(read);
     let answer = m.answer;
     match answer {
-        Answer::Taken(_) => {
-            put_motion(words, m.motion);
-            pack(answer)
-        }
+        Answer::Taken(o) => settle_motion(words, o, m.motion),
         Answer::Refused(_) => pack(answer),
     }
 }

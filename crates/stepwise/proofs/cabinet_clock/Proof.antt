@@ -25,36 +25,33 @@ control-from-requires c κs = search needs
 tick-requires : tie.Need-tick-requires
 tick-requires c κs = search needs
 
+enum-known-answer : tie.Need-enum-known-answer
+enum-known-answer c = search needs
+
+settle-clock-requires : tie.Need-settle-clock-requires
+settle-clock-requires c κs = search needs
+
 enum-told : tie.Need-enum-told
 enum-told c = search needs
 
-put-control-requires : tie.Need-put-control-requires
-put-control-requires c κs = search needs
-
 pack-requires : tie.Need-pack-requires
 pack-requires c κs = search needs
-
-enum-told-2 : tie.Need-enum-told-2
-enum-told-2 c = search needs
-
-pack-requires-2 : tie.Need-pack-requires-2
-pack-requires-2 c κs = search needs
 
 same-length : tie.Need-same-length
 same-length c = search needs
 
 returns-2 : tie.Need-returns-2
 returns-2 c =
-    let at-put-control = c .before .before .before in
-    let at-enum-told = at-put-control .before .before in
-    let at-tick = at-enum-told .before .before in
+    let at-settle = c .before .before in
+    let at-answer = at-settle .before .before .before in
+    let at-tick = at-answer .before .before in
     let at-control-from = at-tick .before in
     let at-first-from = at-control-from .before .before in
     let at-ticks-from = at-first-from .before .before in
     let at-settings-from = at-ticks-from .before .before in
     let at-if1 = at-settings-from .before .before in
     clock-taken _ (at-if1 .if1 .left) _ _ _ _ (at-settings-from .settings-from .ensures) (at-ticks-from .ticks-from .ensures) (at-first-from .first-from .ensures) (at-control-from .control-from .ensures)
-    _ (at-tick .tick .ensures) _ (c .pack .ensures) _ _ (at-enum-told .enum-told .given .1) (at-put-control .put-control .ensures)
+    _ (at-tick .tick .ensures) _ _ (at-answer .answer .given) (at-settle .settle-clock .ensures)
 
 same-length-2 : tie.Need-same-length-2
 same-length-2 c = search needs
@@ -68,7 +65,7 @@ returns-3 c =
     let at-settings-from = at-ticks-from .before .before in
     let at-if1 = at-settings-from .before .before in
     clock-refused _ (at-if1 .if1 .left) _ _ _ _ (at-settings-from .settings-from .ensures) (at-ticks-from .ticks-from .ensures) (at-first-from .first-from .ensures) (at-control-from .control-from .ensures)
-    _ (at-tick .tick .ensures) _ (c .pack2 .ensures) _ (c .before .enum-told2 .given .1)
+    _ (at-tick .tick .ensures) _ _ (c .before .enum-told .given .1) (c .pack .ensures)
 
 pub cabinet-clock-spec : {M : Type 1} → statement M
 cabinet-clock-spec =
@@ -81,11 +78,10 @@ cabinet-clock-spec =
     first-from-requires
     control-from-requires
     tick-requires
+    enum-known-answer
+    settle-clock-requires
     enum-told
-    put-control-requires
     pack-requires
-    enum-told-2
-    pack-requires-2
     same-length
     returns-2
     same-length-2
