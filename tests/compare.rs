@@ -6,7 +6,8 @@
 // Random lists of steps (refused ones among them; sensible and absurd readings, as f32 bit patterns; 1 to 155 trains, their numbers
 // from the whole range, at its edges and beyond; settings that are refused; four kinds, alike or each with its own times) through
 // `weqhaso_run`: every answer, every command, the train that a lower names (0 beside all other steps), and the places beyond the
-// list; also with too few settings and with values behind them. The same lists through `weqhaso_state`, with enough places and too
+// list; also with too few settings and with values behind them. The same lists one call a step through `weqhaso_bench_start` and the
+// calls of a bench, on words that hold anything before: every answer, and what the bench shows at the end. The same lists through `weqhaso_state`, with enough places and too
 // few: also the bench after the list, its trains by number, wherever in the table they stand. The same lists through `weqhaso_look`,
 // in the same way: the pose by its bits, the gate and the trains present. The same lists with two neighbours swapped that are
 // accepted, about different trains, no clock steps, and not an approach and a leave: all but the place of a command between the two
@@ -17,7 +18,7 @@
 // shorter, and longer: every byte, and how many are used. Long records about the longest text that is reported, 65,535 bytes. The
 // stretches of these records and of some that are several times as long, one by one through `weqhaso_start`,
 // `weqhaso_next_lowered` and `weqhaso_next_occupied`, and the instants of `weqhaso_below`. Lists of what a cabinet alone hears
-// through `weqhaso_cabinet`: every answer, every command and its train, and the places beyond the list. Ten million clock steps, up
+// through `weqhaso_cabinet`: every answer, every command and its train, and the places beyond the list; and one call a step. Ten million clock steps, up
 // to the last instant, of the bench and of a cabinet alone. A mismatch prints the input that shows it.
 //
 // The library keeps two trains beside its table, the soonest due one and the coming one that is first at its latest; the second
@@ -158,6 +159,17 @@ extern "C" {
         places_len: usize,
     ) -> u8;
     fn weqhaso_below(text: *const u8, len: usize) -> usize;
+    fn weqhaso_cabinet_start(words: *mut u32, len: usize, s: *const u32, s_len: usize) -> u64;
+    fn weqhaso_cabinet_approach(words: *mut u32, len: usize, letter: u8, train: u32) -> u64;
+    fn weqhaso_cabinet_leave(words: *mut u32, len: usize, train: u32) -> u64;
+    fn weqhaso_cabinet_clock(words: *mut u32, len: usize) -> u64;
+    fn weqhaso_bench_start(words: *mut u32, len: usize, s: *const u32, s_len: usize) -> u64;
+    fn weqhaso_bench_approach(words: *mut u32, len: usize, letter: u8, train: u32) -> u64;
+    fn weqhaso_bench_occupy(words: *mut u32, len: usize, train: u32) -> u64;
+    fn weqhaso_bench_leave(words: *mut u32, len: usize, train: u32) -> u64;
+    fn weqhaso_bench_clock(words: *mut u32, len: usize, reading: f32) -> u64;
+    fn weqhaso_bench_pose(words: *const u32, len: usize, pose: *mut f32, places: usize) -> u64;
+    fn weqhaso_bench_gate(words: *const u32, len: usize, angle: *mut f32, places: usize) -> u64;
     fn weqhaso_to_new(text: *const u8, len: usize, out: *mut u8, out_len: usize) -> u64;
     fn weqhaso_to_old(text: *const u8, len: usize, out: *mut u8, out_len: usize) -> u64;
 }
@@ -179,6 +191,10 @@ const LONG_SHELVES: u32 = 8;
 const WHOLE: u64 = 99;
 const UNTOUCHED: u8 = 99;
 const UNTOUCHED_TRAIN: u32 = 99_999;
+
+// The words of a cabinet and of a bench that the calls of one step are lent.
+const CABINET_WORDS: usize = 405;
+const BENCH_WORDS: usize = 411;
 // The numbers of a bench.
 const STATE: usize = 4 + 4 * PLACES;
 // The most that the last columns of a line hold.
@@ -529,7 +545,87 @@ fn run(s: &[u32], list: &List, told: &mut Told) -> u8 {
     }
 }
 
-// Whether the library answers the list as the second program does, and leaves the places beyond it.
+// What a call of one step is to answer to a step of a list.
+fn packed(told: &Told, i: usize) -> u64 {
+    let (order, train) = (told.orders[i] as u64, told.named[i] as u64);
+    told.answers[i] as u64 + 256 * order + 65_536 * train
+}
+
+// Whether a list goes through the library one call a step as it does in the second program, on words that hold anything before the
+// start: every answer, refused calls leave every word, and after the list the pose and the gate. `call` makes a step.
+fn same_steps(
+    s: &[u32; SETTINGS],
+    list: &List,
+    words: &mut [u32],
+    started: u64,
+    call: impl Fn(&mut [u32], usize) -> u64,
+) -> bool {
+    let left = vec![UNTOUCHED_TRAIN; words.len()];
+    let number = check(s) as u64;
+    if started != number || (number > 0) != (words == &left[..]) {
+        println!("settings {s:?}, one call a step: {number} wanted, {started} got");
+        return false;
+    }
+    for i in 0..list.letters.len() * (number == 0) as usize {
+        let before = words.to_vec();
+        let (want, got) = (packed(&list.told, i), call(words, i));
+        if got != want || (want % 256 > 0 && words != &before[..]) {
+            println!("settings {s:?}, step {i} by a call: {want} wanted, {got} got\n{list:?}");
+            return false;
+        }
+    }
+    true
+}
+
+// On a bench.
+fn same_calls(s: &[u32; SETTINGS], list: &List) -> bool {
+    let mut words = [UNTOUCHED_TRAIN; BENCH_WORDS];
+    let started = unsafe { weqhaso_bench_start(words.as_mut_ptr(), BENCH_WORDS, s.as_ptr(), s.len()) };
+    let same = same_steps(s, list, &mut words, started, |words, i| {
+        let (at, n, letter) = (words.as_mut_ptr(), list.numbers[i], list.letters[i]);
+        unsafe {
+            match letter {
+                b'O' => weqhaso_bench_occupy(at, BENCH_WORDS, n),
+                b'L' => weqhaso_bench_leave(at, BENCH_WORDS, n),
+                b'T' => weqhaso_bench_clock(at, BENCH_WORDS, list.readings[i]),
+                _ => weqhaso_bench_approach(at, BENCH_WORDS, letter, n),
+            }
+        }
+    });
+    if !same || started > 0 {
+        return same;
+    }
+    let (mut pose, mut angle) = ([f32::NAN; 2], [f32::NAN]);
+    let shown = unsafe { weqhaso_bench_pose(words.as_ptr(), BENCH_WORDS, pose.as_mut_ptr(), 2) };
+    let gate = unsafe { weqhaso_bench_gate(words.as_ptr(), BENCH_WORDS, angle.as_mut_ptr(), 1) };
+    let want = [list.pose[0], f32::NAN.to_bits()][(list.look[0] < 2) as usize];
+    let same = shown == 0
+        && pose.map(f32::to_bits) == list.pose
+        && gate == 256 * list.look[0] as u64
+        && angle[0].to_bits() == want;
+    if !same {
+        println!("settings {s:?}: pose {pose:?} and gate {gate} ({angle:?}) by calls\n{list:?}");
+    }
+    same
+}
+
+// On a cabinet alone.
+fn same_cabinet_calls(s: &[u32; SETTINGS], list: &List) -> bool {
+    let mut words = [UNTOUCHED_TRAIN; CABINET_WORDS];
+    let started = unsafe { weqhaso_cabinet_start(words.as_mut_ptr(), CABINET_WORDS, s.as_ptr(), s.len()) };
+    same_steps(s, list, &mut words, started, |words, i| {
+        let (at, n, letter) = (words.as_mut_ptr(), list.numbers[i], list.letters[i]);
+        unsafe {
+            match letter {
+                b'L' => weqhaso_cabinet_leave(at, CABINET_WORDS, n),
+                b'T' => weqhaso_cabinet_clock(at, CABINET_WORDS),
+                _ => weqhaso_cabinet_approach(at, CABINET_WORDS, letter, n),
+            }
+        }
+    })
+}
+
+// Whether the library answers the list as the second program does, and leaves the places beyond it; also one call a step.
 fn same_run(r: &mut Random, s: &[u32; SETTINGS], list: &List) -> bool {
     let number = check(s);
     let len = list.letters.len() + r.below(3) as usize;
@@ -545,7 +641,7 @@ fn same_run(r: &mut Random, s: &[u32; SETTINGS], list: &List) -> bool {
             "settings {s:?}: {number} wanted, {got} got\n{list:?}\n{want:?} wanted\n{told:?} got"
         );
     }
-    same
+    same && same_calls(s, list)
 }
 
 // Whether fewer than thirteen settings are refused, 1, as the missing ones are 0, and values behind the thirteen change nothing.
@@ -752,7 +848,7 @@ fn run_cabinet(s: &[u32; SETTINGS], letters: &[u8], numbers: &[u32], told: &mut 
 fn same_heard(r: &mut Random, s: &[u32; SETTINGS], list: &List, spoiled: u64) -> bool {
     let mut lent = Lent::new(r, s, list, NOT_HEARD, spoiled, true);
     let got = run_cabinet(s, &lent.letters, &lent.numbers, &mut lent.told);
-    lent.same(s, list, got)
+    lent.same(s, list, got) && (spoiled != WHOLE || same_cabinet_calls(s, list))
 }
 
 // A present train: its number, the instant of its approach, its due instant and its latest.

@@ -3,7 +3,7 @@ use Prim.Native.Nat.{ℕ, suc, _+_, _*_, _/_, _%_, _<_}
 use native.Mathlib.Nat.{mod-eq-of-lt, div-add-mod}
 use native.Mathlib.Omega.{arith}
 use mathlib.Core.Path.{_≡_, refl, sym, ap, _∙_}
-use mathlib.Core.List.{List, [], _∷_, _++_}
+use mathlib.Core.List.{List, [], _∷_, _++_, append-nil}
 use lib.ListN.{length, drop, getD}
 use lib.Seq.{drop-drop, getD-drop, getD-append-add}
 use Rattle.settings.specs.declared.Kind.{Kind}
@@ -21,7 +21,7 @@ use Rattle.trains.specs.First.{trainOf}
 use Rattle.cabinet.specs.declared.Cabinet.{Cabinet}
 use Rattle.bench.specs.declared.Bench.{Bench}
 use Rattle.stepwise.specs.Words.{commandFrom, commandNumber, kindFrom, kindAs, standingFrom, standingNumber, entryFrom, entryIn, entryWords, entriesFrom, entriesWords, firstFrom, firstIn, firstNumber, instantOf, firstWords, settingsFrom, cabinetFrom, cabinetWords, headFrom, benchFrom, cabinetIn, armWords, benchWords}
-use Rattle.stepwise.specs.Driven.{Holdable, BenchHoldable}
+use Rattle.stepwise.specs.Driven.{Holdable, BenchHoldable, ReadsBack}
 use Rattle.stepwise.proofs.Words.{cabinet-length}
 
 -- ---- numbers
@@ -82,6 +82,10 @@ cabinet-back c rest h =
     = ap (entriesFrom ws 21) (sym (h .entries)) ∙ entries-back (c .table .places) ws rest 21 (h .numbers) refl in
     rw (table, command-back, first-back)
 
+-- with nothing after them
+pub read-back : (c : Cabinet) → Holdable (c .table) → cabinetFrom (cabinetWords c) ≡ c
+read-back c h = ap cabinetFrom (sym (append-nil (cabinetWords c))) ∙ cabinet-back c [] h
+
 -- ---- a bench
 
 -- a cabinet with an arm and the train that is first at its latest
@@ -114,3 +118,6 @@ bench-back b h =
     let previous : getD (words ++ more) 406 0 % 65536 ≡ b .head .motion .previous = ap (λ (k : ℕ). k % 65536) (at 1) ∙ mod-eq-of-lt (h .previous) in
     let latest : firstIn (words ++ more) 407 ≡ b .head .latest = same-first (at 2) (at 3) (at 4) (at 5) ∙ first-back (b .head .latest) in
     joined-from (words ++ more) ∙ rw (cabinet-back (cabinetIn b) more (h .table), angle, previous, latest)
+
+pub reads-back : ReadsBack
+reads-back = (read-back, bench-back)

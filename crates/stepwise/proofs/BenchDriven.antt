@@ -34,7 +34,7 @@ use Rattle.bench.specs.declared.Bench.{Bench}
 use Rattle.bench.specs.declared.Sensed.{Sensed}
 use Rattle.bench.specs.declared.Ticked.{Ticked}
 use Rattle.bench.specs.declared.Moved.{Moved}
-use Rattle.bench.specs.Bench.{nowOf, entryAt, standsAt, comingNow, freshHead, freshBench, clockRefusal, turned, unticked, headTicked, unsensed, headLooked, headApproached, headOccupied, headLeft, headSensed, askedFor, movedBy, sensed, putMotion, clockRead}
+use Rattle.bench.specs.Bench.{nowOf, entryAt, standsAt, comingNow, freshHead, freshBench, clockRefusal, turned, unticked, headTicked, unsensed, headLooked, headApproached, headOccupied, headLeft, headSensed, askedFor, movedBy, sensed, withMotion, clockRead}
 use Rattle.bench.proofs.Laws.{occupy-says, coming-present, leave-says, inside-present}
 use Rattle.runs.specs.declared.Step.{Step}
 use Rattle.runs.specs.declared.Step.the-variants.{Approach, Occupy, Leave, Clock}
@@ -48,6 +48,7 @@ use Rattle.stepwise.specs.BenchCalls.{benchStarted, benchTrain, benchTic
 use Rattle.stepwise.specs.Driven.{BenchHoldable, wordsAfter, answersAfter, stepsOf, BenchDrives}
 use Rattle.stepwise.proofs.Words.{bench-length}
 use Rattle.stepwise.proofs.Calls.{lent-held, start-accepted}
+use Rattle.stepwise.proofs.Shown.{pose-shown, gate-shown}
 use Rattle.stepwise.proofs.Back.{bench-back}
 use Rattle.stepwise.proofs.Written.{motion-written, event-written}
 use Rattle.stepwise.proofs.Lists.{fresh-holdable, put-holdable, list-good, list-words, list-answers}
@@ -152,7 +153,7 @@ module _ (b : Bench) (h : BenchHoldable b) where
   clock-writes r = go (leb 9999999 (nowOf b)) refl (clockRefusal (b .head) r) refl
     where
       go : (ended : Bool) → leb 9999999 (nowOf b) ≡ ended → (k : ℕ) → clockRefusal (b .head) r ≡ k →
-          (benchTicked (benchWords b) (putMotion b (ticks r k ended)) ≡ stepWords (putMotion b (ticks r k ended))) × BenchHoldable (putMotion b (ticks r k ended) .bench)
+          (benchTicked (benchWords b) (withMotion b (ticks r k ended)) ≡ stepWords (withMotion b (ticks r k ended))) × BenchHoldable (withMotion b (ticks r k ended) .bench)
       go ended p (suc k) e = (refl, h)
       go true p zero e = absurd (true≢false (sym p ∙ clock-says b r e .0))
       go false p zero e = (
@@ -202,15 +203,20 @@ unfolding benchCalled
 bench-drives s accepted ws l xs =
     let started = start-words s ws accepted l in
     let good = fresh-good s in
-    let words = ap (λ (u : Called). wordsAfter benchCalled (u .words) xs) started
+    let last = benchAfter (freshBench s) (stepsOf xs) in
+    let words : wordsAfter benchCalled (benchStarted ws s .words) xs ≡ benchWords last = ap (λ (u : Called). wordsAfter benchCalled (u .words) xs) started
     ∙ list-words stepIn benchTakes benchWords benchNext benchAnswer BenchHoldable takes-words takes-holdable xs (freshBench s) good in
+    let holdable : BenchHoldable last = list-good stepIn benchTakes benchWords benchNext benchAnswer BenchHoldable takes-words takes-holdable xs (freshBench s) good in
+    let long = ap length words ∙ bench-length last (holdable .table .entries) in
+    let back = ap benchFrom words ∙ bench-back last holdable in
     record {
       started = ap (λ (u : Called). u .answer) started;
       words = words;
-      back = ap benchFrom words ∙ bench-back (benchAfter (freshBench s) (stepsOf xs))
-          (list-good stepIn benchTakes benchWords benchNext benchAnswer BenchHoldable takes-words takes-holdable xs (freshBench s) good);
+      back = back;
       answers = ap (λ (u : Called). answersAfter benchCalled (u .words) xs) started
           ∙ list-answers stepIn benchTakes benchWords benchNext benchAnswer BenchHoldable takes-words takes-holdable xs (freshBench s) good;
+      pose = λ old. pose-shown (wordsAfter benchCalled (benchStarted ws s .words) xs) last long back old;
+      gate = λ old. gate-shown (wordsAfter benchCalled (benchStarted ws s .words) xs) last long back old;
       demand = demand3 s accepted (stepsOf xs);
       kept = bench-always s (stepsOf xs);
       claims = claims s accepted;

@@ -32,7 +32,7 @@ use Rattle.runs.specs.Run.{orElse, orFull}
 use Rattle.stepwise.specs.declared.Named.{Named}
 use Rattle.stepwise.specs.declared.Named.the-variants.{As, Nothing}
 use Rattle.stepwise.specs.Words.{soonestAt, firstIn, tableFrom, settingsFrom, ticksFrom, controlFrom, cabinetFrom, cabinetWords}
-use Rattle.stepwise.specs.Calls.{Called, called, packedAnswer, answered, trainNumber, withClock, kindNamed}
+use Rattle.stepwise.specs.Calls.{Called, called, packedAnswer, answered, trainNumber, putClock, kindNamed}
 use Rattle.stepwise.specs.CabinetCalls.{cabinetStarted, cabinetTrain, cabinetHears, approaching, leaving, ticking, cabinetCalled}
 use Rattle.stepwise.proofs.Words.{entries-many, cabinet-length}
 use Rattle.stepwise.proofs.Calls.{lent-wrong, lent-there, answered-taken, answered-refused, order-taken, named-kind, named-none, start-taken, start-refused}
@@ -125,14 +125,14 @@ clock-wrong ws r n e = lent-wrong 405 ws 0 _ r n e
 
 module _ (ws : List ℕ) (l : length ws ≡ 405) (s : Settings) (ticks : Ticks) (f : First) (w : Control) (es : s ≡ settingsFrom ws) (et : ticks ≡ ticksFrom ws)
     (ef : f ≡ firstIn ws soonestAt) (ew : w ≡ controlFrom ws) (t : Controlled) (is : t ≡ ticked s ticks f w) where
-  clock-called : (x : Called) → x ≡ answered (t .answer) (withClock ws (orderOf (t .answer)) (t .control)) ws → x ≡ cabinetCalled ws ticking
+  clock-called : (x : Called) → x ≡ answered (t .answer) (putClock ws (orderOf (t .answer)) (t .control)) ws → x ≡ cabinetCalled ws ticking
   unfolding cabinetCalled cabinetHears cabinetFrom clocked
   clock-called x e =
       let words : t ≡ ticked (settingsFrom ws) (ticksFrom ws) (firstIn ws soonestAt) (controlFrom ws) = is ∙ rw (es, et, ef, ew) in
-      lent-there 405 ws 0 _ x l (e ∙ ap (λ (u : Controlled). answered (u .answer) (withClock ws (orderOf (u .answer)) (u .control)) ws) words)
+      lent-there 405 ws 0 _ x l (e ∙ ap (λ (u : Controlled). answered (u .answer) (putClock ws (orderOf (u .answer)) (u .control)) ws) words)
 
-  pub clock-taken : (o : Order) (x : Called) → t .answer ≡ Taken o → x ≡ called (packedAnswer (Taken o)) (withClock ws o (t .control)) → x ≡ cabinetCalled ws ticking
-  clock-taken o x a e = clock-called x (e ∙ order-taken (t .answer) (λ p. withClock ws p (t .control)) ws o a)
+  pub clock-taken : (o : Order) (x : Called) → t .answer ≡ Taken o → x ≡ called (packedAnswer (Taken o)) (putClock ws o (t .control)) → x ≡ cabinetCalled ws ticking
+  clock-taken o x a e = clock-called x (e ∙ order-taken (t .answer) (λ p. putClock ws p (t .control)) ws o a)
 
   pub clock-refused : (k r : ℕ) → t .answer ≡ Refused k → r ≡ packedAnswer (t .answer) → called r ws ≡ cabinetCalled ws ticking
-  clock-refused k r a packed = clock-called (called r ws) (answered-refused (t .answer) (withClock ws (orderOf (t .answer)) (t .control)) ws r packed k a)
+  clock-refused k r a packed = clock-called (called r ws) (answered-refused (t .answer) (putClock ws (orderOf (t .answer)) (t .control)) ws r packed k a)

@@ -1,4 +1,5 @@
 pub mod Words
+pub mod Packed
 pub mod Calls
 pub mod CabinetCalls
 pub mod BenchCalls

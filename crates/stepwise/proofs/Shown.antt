@@ -1,7 +1,7 @@
 -- What a bench in words shows. Assumes nothing.
 use Prim.Native.Nat.{ℕ, _*_, _≤_, _<_}
 use native.Mathlib.Omega.{arith}
-use mathlib.Core.Path.{_≡_, refl, ap, ap₂, _∙_}
+use mathlib.Core.Path.{_≡_, refl, sym, ap, ap₂, _∙_}
 use mathlib.Core.List.{List, [], _∷_}
 use lib.Ieee.{Float}
 use lib.ListN.{length, set}
@@ -10,10 +10,11 @@ use Rattle.arm.specs.declared.Gate.{Gate}
 use Rattle.arm.specs.declared.Gate.the-variants.{Up, Down, Falling, Rising}
 use Rattle.arm.specs.declared.Pose.{Pose}
 use Rattle.arm.specs.Shown.{poseOf, gateOf}
+use Rattle.bench.specs.declared.Bench.{Bench}
 use Rattle.bench.specs.declared.Head.{Head}
 use Rattle.runs.specs.Run.{over}
 use Rattle.stepwise.specs.Words.{headFrom, benchFrom}
-use Rattle.stepwise.specs.Shown.{poseNumbers, gateNumber, Showed, showed, shownIn, poseShown, gateAngle, gateShown}
+use Rattle.stepwise.specs.Shown.{poseNumbers, posed, gateNumber, gateIn, Showed, showed, shownIn, poseShown, gateAngle, gateOver, gateShown}
 
 -- one value in the first place, and two in the first two
 pub one-over : {A : Type 0} (old : List A) (x : A) → 1 ≤ length old → set old 0 x ≡ over (x ∷ []) old
@@ -81,3 +82,14 @@ module _ (old : List Float) (g : Gate) where
 
   pub angle-rising : (x : Float) → 1 ≤ length old → g ≡ Rising x → set old 0 x ≡ gateAngle g old
   angle-rising x h e = rw e (one-over old x h)
+
+-- ---- words that are read as a bench show what it shows
+
+module _ (ws : List ℕ) (b : Bench) (l : length ws ≡ 411) (is : benchFrom ws ≡ b) (old : List Float) where
+  pub pose-shown : 2 ≤ length old → poseShown ws old ≡ showed 0 (over (posed b) old)
+  unfolding poseShown
+  pose-shown h = sym (shown-there 2 ws old _ (showed 0 (over (posed (benchFrom ws)) old)) l h refl) ∙ ap (λ (d : Bench). showed 0 (over (posed d) old)) is
+
+  pub gate-shown : 1 ≤ length old → gateShown ws old ≡ gateOver (gateIn b) old
+  unfolding gateShown
+  gate-shown h = sym (shown-there 1 ws old _ (gateOver (gateIn (benchFrom ws)) old) l h refl) ∙ ap (λ (d : Bench). gateOver (gateIn d) old) is

@@ -22,14 +22,17 @@ use Rattle.runs.specs.Run.{orFull}
 use Rattle.stepwise.specs.Words.{benchLength, tableFrom, benchFrom, benchWords}
 use Rattle.stepwise.specs.Calls.{Called, answered, lent, trainNumber, startedBy, putMotion, putEvent, entryThere, kindNamed, ofKind, orNoStep}
 
+-- a start: the settings' own refusal, or 14, or the words of a fresh bench
 unfoldable pub benchStarted : List ℕ → Settings → Called
 benchStarted ws s = startedBy (orFull (settingsRefusal s) (eqb (length ws) benchLength)) (benchWords (freshBench s)) ws
 
--- ---- the bench
+-- ---- steps
 
+-- a train's step that gives m, with the train's place
 abbrev pub benchTrain : List ℕ → ℕ → Moved → Called
 benchTrain ws place m = answered (m .answer) (putEvent ws (m .bench .head) place (entryThere (m .bench .table) place)) ws
 
+-- a clock step that gives m
 abbrev pub benchTicked : List ℕ → Moved → Called
 benchTicked ws m = answered (m .answer) (putMotion ws (orderOf (m .answer)) (m .bench .head .motion)) ws
 
@@ -44,19 +47,22 @@ benchTakes ws (step.Occupy n) = benchSenses ws events.Occupy n
 benchTakes ws (step.Leave n) = benchSenses ws events.Leave n
 benchTakes ws (step.Clock r) = lent benchLength ws (arm.numberOf (readingOf r)) (benchTicked ws (clockRead (benchFrom ws) (readingOf r)))
 
--- a call on a bench: an approach with its letter and its train, an occupy, a leave, a clock step with its reading
+-- ---- calls
+
+-- an approach with its letter and its train, an occupy, a leave, a clock step with its reading
 pub data BenchCall : Type 0 where
   approaching : ℕ → ℕ → BenchCall
   occupying : ℕ → BenchCall
   leaving : ℕ → BenchCall
   ticking : Float → BenchCall
 
--- the step that it names
+-- the step that a call names; none where the letter of an approach names no kind
 abbrev pub stepIn : BenchCall → Option Step
 stepIn (approaching letter n) = ofKind (kindNamed (letterOf letter)) (λ k. step.Approach k n)
 stepIn (occupying n) = some (step.Occupy n)
 stepIn (leaving n) = some (step.Leave n)
 stepIn (ticking r) = some (step.Clock r)
 
+-- what a call answers and leaves
 unfoldable pub benchCalled : List ℕ → BenchCall → Called
 benchCalled ws x = orNoStep (stepIn x) ws (benchTakes ws)

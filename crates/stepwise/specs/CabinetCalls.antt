@@ -16,14 +16,17 @@ use Rattle.runs.specs.Run.{orFull}
 use Rattle.stepwise.specs.Words.{cabinetLength, tableFrom, cabinetFrom, cabinetWords}
 use Rattle.stepwise.specs.Calls.{Called, answered, lent, trainNumber, startedBy, putClock, putStep, entryThere, kindNamed, ofKind, orNoStep}
 
+-- a start: the settings' own refusal, or 14, or the words of a fresh cabinet
 unfoldable pub cabinetStarted : List ℕ → Settings → Called
 cabinetStarted ws s = startedBy (orFull (settingsRefusal s) (eqb (length ws) cabinetLength)) (cabinetWords (freshCabinet s)) ws
 
--- ---- the cabinet
+-- ---- steps
 
+-- a train's step that gives m, with the train's place
 abbrev pub cabinetTrain : List ℕ → ℕ → Stepped → Called
 cabinetTrain ws place m = answered (m .answer) (putStep ws (m .cabinet .control) (m .cabinet .soonest) place (entryThere (m .cabinet .table) place)) ws
 
+-- a clock step that gives m
 abbrev pub cabinetTicked : List ℕ → Stepped → Called
 cabinetTicked ws m = answered (m .answer) (putClock ws (orderOf (m .answer)) (m .cabinet .control)) ws
 
@@ -34,17 +37,20 @@ cabinetHears ws (heard.approaching k n) =
 cabinetHears ws (heard.leaving n) = lent cabinetLength ws (trainNumber n) (cabinetTrain ws (placeFor (tableFrom ws) n) (left (cabinetFrom ws) n))
 cabinetHears ws heard.ticking = lent cabinetLength ws 0 (cabinetTicked ws (clocked (cabinetFrom ws)))
 
--- a call on a cabinet: an approach with its letter and its train, a leave, a clock step
+-- ---- calls
+
+-- an approach with its letter and its train, a leave, a clock step
 pub data CabinetCall : Type 0 where
   approaching : ℕ → ℕ → CabinetCall
   leaving : ℕ → CabinetCall
   ticking : CabinetCall
 
--- what it hears of it
+-- what the cabinet hears of a call; nothing of an approach whose letter names no kind
 abbrev pub heardIn : CabinetCall → Option Heard
 heardIn (approaching letter n) = ofKind (kindNamed (letterOf letter)) (λ k. heard.approaching k n)
 heardIn (leaving n) = some (heard.leaving n)
 heardIn ticking = some heard.ticking
 
+-- what a call answers and leaves
 unfoldable pub cabinetCalled : List ℕ → CabinetCall → Called
 cabinetCalled ws x = orNoStep (heardIn x) ws (cabinetHears ws)

@@ -1,7 +1,8 @@
 -- One call a step, on words that the caller lends: how it answers, and what words it changes.
 -- A call whose words are not as many as they should be is refused, 14 last, after the number that is found without them; an approach whose letter is not the
 -- record's A, B, E or F is no step, and is refused before all else, 15. A refusal keeps every word. Assumes nothing.
-use Prim.Native.Nat.{ℕ, _+_, _*_}
+use Prim.Native.Nat.{ℕ, _+_, _*_, _/_, _%_, _<_}
+use mathlib.Core.Path.{_≡_}
 use mathlib.Core.Bool.{cond, not}
 use mathlib.Core.List.{List, [], _∷_}
 use mathlib.Core.Option.{Option, none, some}
@@ -44,6 +45,16 @@ called answer words = record { answer = answer; words = words }
 -- the refusal number, 256 times the record's letter of the command given (D 68, U 85, 0 none), and 65,536 times the train of a lower
 abbrev pub packedAnswer : Answer → ℕ
 packedAnswer a = numberOf a + 256 * answerByte a + 65536 * answerTrain a
+
+-- taken apart again: the number below 256, the letter below the next 256, and the train
+pub record Unpacked (a : Answer) : Type 0 where
+  pub number : packedAnswer a % 256 ≡ numberOf a
+  pub letter : packedAnswer a / 256 % 256 ≡ answerByte a
+  pub train : packedAnswer a / 65536 ≡ answerTrain a
+
+-- so is every answer whose number fits a byte, as all do
+abbrev pub Unpacks : Type 0
+Unpacks = (a : Answer) → numberOf a < 256 → Unpacked a
 
 -- the new words where a step is taken; a refusal keeps every word
 abbrev pub whereTaken : Answer → List ℕ → List ℕ → List ℕ

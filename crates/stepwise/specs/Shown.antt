@@ -57,6 +57,9 @@ gateAngle Down old = old
 gateAngle (Falling angle) old = over (angle ∷ []) old
 gateAngle (Rising angle) old = over (angle ∷ []) old
 
--- 256 times the gate
+-- 256 times the gate, with its angle
+abbrev pub gateOver : Gate → List Float → Showed
+gateOver gate old = showed (256 * gateNumber gate) (gateAngle gate old)
+
 unfoldable pub gateShown : List ℕ → List Float → Showed
-gateShown ws old = shownIn 1 ws old (showed (256 * gateNumber (gateIn (benchFrom ws))) (gateAngle (gateIn (benchFrom ws)) old))
+gateShown ws old = shownIn 1 ws old (gateOver (gateIn (benchFrom ws)) old)

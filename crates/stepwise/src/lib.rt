@@ -1,8 +1,7 @@
-// A cabinet and a bench in words that the caller lends, one call a step. A clock step reads and writes the words beside the table alone; a train's step
-// reads the table, and writes the words of one entry.
+// A cabinet and a bench in words that the caller lends, one call a step. A clock step reads and writes words beside the table alone; a
+// train's step reads the table, and writes the words of one entry.
 ghost use Prim.Native.Nat.{_+_, _<_, _≤_};
 ghost use mathlib.Core.Path.{_≡_};
-ghost use mathlib.Core.Bool.{not};
 ghost use mathlib.Core.List.{[], _∷_, _++_};
 ghost use lib.ListN.{length};
 ghost use Rattle.lines.specs.Bytes.{splice};
@@ -533,8 +532,8 @@ fn settle(words: &mut [u32], place: usize, m: Stepped) -> u64
     }
 }
 
-// A train approaches, by the record's letter of its kind (`cabinet::Cabinet::approach`). 15 first, another letter; refusals 5, 6 and 17; 14 last, where
-// there are not 405 words.
+// A train approaches, by the record's letter of its kind (`cabinet::Cabinet::approach`). 15 first, another letter; refusals 5, 6 and 17;
+// 14 last, where there are not 405 words.
 pub fn cabinet_approach(words: &mut [u32], letter: u8, n: u32) -> u64
     ensures { λ r. ⌜ called r (now (words .exit)) ≡ cabinetCalled (now (words .entry)) (cabinetCall.approaching letter n) ⌝ }
 {
@@ -620,7 +619,8 @@ fn bench_event(words: &mut [u32], e: Event, n: u32) -> u64
     }
 }
 
-// A train approaches, by the record's letter of its kind. 15 first, another letter; refusals 5, 6 and 17; 14 last, where there are not 411 words.
+// A train approaches, by the record's letter of its kind. 15 first, another letter; refusals 5, 6 and 17; 14 last, where there are not 411
+// words.
 pub fn bench_approach(words: &mut [u32], letter: u8, n: u32) -> u64
     ensures { λ r. ⌜ called r (now (words .exit)) ≡ benchCalled (now (words .entry)) (benchCall.approaching letter n) ⌝ }
 {
@@ -664,8 +664,8 @@ pub fn bench_clock(words: &mut [u32], reading: f32) -> u64
 
 // ---- what the bench shows
 
-// The pose in the first two places of `pose`: the angle and its change over the last clock step, in degrees. 0, or 14 where there are not 411 words or
-// fewer than two places.
+// The pose in the first two places of `pose`: the angle and its change over the last clock step, in degrees. 0, or 14 where there are not
+// 411 words or fewer than two places.
 pub fn bench_pose(words: &[u32], pose: &mut [f32]) -> u64
     ensures { λ r. ⌜ showed r (now (pose .exit)) ≡ poseShown (now (words .entry)) (now (pose .entry)) ⌝ }
 {
@@ -694,8 +694,8 @@ pub fn gate_number(gate: Gate) -> u32
     }
 }
 
-// 256 times the gate, and in the first place of `angle` that of a gate that falls or rises, in degrees; up and down leave it. 14 where there are not 411
-// words or no place.
+// 256 times the gate, and in the first place of `angle` that of a gate that falls or rises, in degrees; up and down leave it. 14 where
+// there are not 411 words or no place.
 pub fn bench_gate(words: &[u32], angle: &mut [f32]) -> u64
     ensures { λ r. ⌜ showed r (now (angle .exit)) ≡ gateShown (now (words .entry)) (now (angle .entry)) ⌝ }
 {

@@ -45,7 +45,7 @@ returns-2 c =
     let at-head-from = at-tick .before in
     let at-if1 = at-head-from .before .before in
     clock-taken _ (at-if1 .if1 .left) _ _ _ (at-head-from .head-from .ensures) (at-if1 .before .to-64ths .ensures)
-    _ (at-tick .tick .ensures) _ _ (at-answer .answer .given) (at-settle .settle-motion .ensures)
+    _ (at-tick .tick .ensures) _ _ (at-answer .answer .given .1) (at-settle .settle-motion .ensures)
 
 same-length-2 : tie.Need-same-length-2
 same-length-2 c = search needs

@@ -51,7 +51,7 @@ returns-2 c =
     let at-settings-from = at-ticks-from .before .before in
     let at-if1 = at-settings-from .before .before in
     clock-taken _ (at-if1 .if1 .left) _ _ _ _ (at-settings-from .settings-from .ensures) (at-ticks-from .ticks-from .ensures) (at-first-from .first-from .ensures) (at-control-from .control-from .ensures)
-    _ (at-tick .tick .ensures) _ _ (at-answer .answer .given) (at-settle .settle-clock .ensures)
+    _ (at-tick .tick .ensures) _ _ (at-answer .answer .given .1) (at-settle .settle-clock .ensures)
 
 same-length-2 : tie.Need-same-length-2
 same-length-2 c = search needs

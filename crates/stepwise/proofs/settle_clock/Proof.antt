@@ -34,19 +34,29 @@ same-length : tie.Need-same-length
 same-length c = search needs
 
 returns : tie.Need-returns
-returns c = clock-quiet _ _ _ (omega (arith, c .before .before .before .pre)) (c .enum-told .given)
+returns c =
+    let start = c .before .before .before in
+    clock-quiet (start .args .words .now) (start .args .o) (start .args .w) (omega (arith, start .pre)) (c .enum-told .given .1)
 
 same-length-2 : tie.Need-same-length-2
 same-length-2 c = search needs
 
 returns-2 : tie.Need-returns-2
-returns-2 c = clock-lowers _ _ _ _ _ _ (c .before .before .before .before .before .enum-told2 .given .1) (c .before .before .before .put-control .ensures) (c .pack .ensures)
+returns-2 c =
+    let at-put = c .before .before .before in
+    let told = at-put .before .before in
+    let a = told .before .before .before .args in
+    clock-lowers (a .words .now) (a .o) (a .w) _ _ _ (told .enum-told2 .given .1) (at-put .put-control .ensures) (c .pack .ensures)
 
 same-length-3 : tie.Need-same-length-3
 same-length-3 c = search needs
 
 returns-3 : tie.Need-returns-3
-returns-3 c = clock-raises _ _ _ _ _ (c .before .before .before .before .before .enum-told3 .given) (c .before .before .before .put-control2 .ensures) (c .pack2 .ensures)
+returns-3 c =
+    let at-put = c .before .before .before in
+    let told = at-put .before .before in
+    let a = told .before .before .before .args in
+    clock-raises (a .words .now) (a .o) (a .w) _ _ (told .enum-told3 .given .1) (at-put .put-control2 .ensures) (c .pack2 .ensures)
 
 pub settle-clock-spec : {M : Type 1} → statement M
 settle-clock-spec =

@@ -1,5 +1,5 @@
 -- `gate::keyboard::give_last` meets its contract. Assumes nothing.
-use Rattle.live.proofs.Taking.{line-few, end-few}
+use Rattle.live.proofs.Taking.{end-few}
 use Rattle.gate.proofs.Counts.{given-held}
 use borrow.Author.Needs.{needs}
 use Rattle.gate.proofs.keyboard.give_last.Statement.{statement}

@@ -1,6 +1,6 @@
 -- `gate::keyboard::give_line` meets its contract. Assumes nothing.
 use Rattle.steplines.specs.StepLine.{meaningOf}
-use Rattle.live.proofs.Taking.{line-few, end-few}
+use Rattle.live.proofs.Taking.{line-few}
 use Rattle.gate.proofs.Counts.{given-held}
 use borrow.Author.Needs.{needs}
 use Rattle.gate.proofs.keyboard.give_line.Statement.{statement}

@@ -1,6 +1,5 @@
 -- `gate::keyboard::line_end` meets its contract. Assumes nothing.
 use Prim.Native.Nat.{_-_, _≤_}
-use mathlib.Core.Path.{_≡_}
 use lib.ListN.{length}
 use borrow.Author.Needs.{needs}
 use Rattle.gate.proofs.keyboard.line_end.Statement.{statement}
