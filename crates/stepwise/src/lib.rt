@@ -2,16 +2,20 @@
 // train's step reads the table, and writes the words of one entry.
 ghost use Prim.Native.Nat.{_+_, _<_, _≤_};
 ghost use mathlib.Core.Path.{_≡_};
+ghost use mathlib.Core.Bool.{true};
 ghost use mathlib.Core.List.{[], _∷_, _++_};
 ghost use lib.ListN.{length};
 ghost use Rattle.lines.specs.Bytes.{splice};
 ghost use Rattle.settings.specs.Values.{thirteen, settingsOf};
 ghost use Rattle.arm.specs.Shown.{numberOf};
+ghost use Rattle.trains.specs.Trains.{isPresent};
+ghost use Rattle.trains.specs.Table.{isOf, isFree, indexOf, foundFor};
+ghost use Rattle.trains.specs.First.{restOf, askedOf};
 ghost use Rattle.cabinet.specs.declared.Answer.the-variants.{Taken};
 ghost use Rattle.cabinet.specs.declared.Order.{Order};
 ghost use Rattle.runs.specs.Letters.{letterOf};
 ghost use Rattle.runs.specs.Run.{orElse};
-ghost use Rattle.stepwise.specs.Words.{tableAt, placeAt, cabinetLength, benchLength, commandFrom, commandNumber, kindFrom, kindAs, standingFrom, standingNumber, entryFrom, entryWords, tableFrom};
+ghost use Rattle.stepwise.specs.Words.{tableAt, placeAt, cabinetLength, benchLength, commandFrom, commandNumber, kindFrom, kindAs, standingFrom, standingNumber, entryFrom, entryIn, entryWords, tableFrom};
 ghost use Rattle.stepwise.specs.Words.{entriesWords, firstIn, firstWords, settingsFrom, ticksFrom, ticksWords, controlFrom, controlWords, cabinetFrom};
 ghost use Rattle.stepwise.specs.Words.{cabinetWords, headFrom, armWords, benchWords};
 ghost use Rattle.stepwise.specs.Calls.{called, packedAnswer, trainNumber, putClock, putControl, putMotion, putStep, putEvent, kindNamed};
@@ -37,8 +41,11 @@ use settings::Kind;
 use settings::Settings;
 use settings::Ticks;
 use settings::Times;
+use trains::Asked;
 use trains::Entry;
 use trains::First;
+use trains::Found;
+use trains::Question;
 use trains::Standing;
 use trains::Table;
 
@@ -229,6 +236,100 @@ fn table_from(words: &[u32]) -> Table
         place = place + 1;
     }
     Table { places: places }
+}
+
+// ---- the table, asked where it lies
+
+// Whether the entry of the four words from `i` on is present train n's.
+fn is_of(words: &[u32], i: usize, n: u32) -> bool
+    requires { ⌜ i + 4 ≤ length (now words) ⌝ }
+    ensures { λ r. ⌜ r ≡ isOf n (entryIn (now (words .entry)) i) ⌝ }
+{
+    (words[i + 2] != 0) & (words[i] % 65536 == n)
+}
+
+// Whether no train has it.
+fn is_free(words: &[u32], i: usize) -> bool
+    requires { ⌜ i + 4 ≤ length (now words) ⌝ }
+    ensures { λ r. ⌜ r ≡ isFree (entryIn (now (words .entry)) i) ⌝ }
+{
+    words[i + 2] == 0
+}
+
+// The place of present train n, 96 for none.
+fn own_place(words: &[u32], n: u32) -> usize
+    requires { ⌜ cabinetLength ≤ length (now words) ⌝ }
+    ensures { λ r. ⌜ r ≡ indexOf (isOf n) (tableFrom (now (words .entry)) .places) ⌝ }
+{
+    let mut place: usize = 0;
+    while place < 96 {
+        if is_of(words, TABLE + 4 * place, n) {
+            return place;
+        }
+        place = place + 1;
+    }
+    place
+}
+
+// The first place that no train has, 96 for none.
+fn free_place(words: &[u32]) -> usize
+    requires { ⌜ cabinetLength ≤ length (now words) ⌝ }
+    ensures { λ r. ⌜ r ≡ indexOf isFree (tableFrom (now (words .entry)) .places) ⌝ }
+{
+    let mut place: usize = 0;
+    while place < 96 {
+        if is_free(words, TABLE + 4 * place) {
+            return place;
+        }
+        place = place + 1;
+    }
+    place
+}
+
+// Train n in the table, as `trains::Table::find` gives it, and no other entry decoded.
+fn find_in(words: &[u32], n: u32) -> Found
+    requires { ⌜ cabinetLength ≤ length (now words) ⌝ }
+    ensures { λ r. ⌜ r ≡ foundFor (tableFrom (now (words .entry))) n ⌝ }
+{
+    let own = own_place(words, n);
+    if own < 96 {
+        let i = TABLE + 4 * own;
+        return Found {
+            place: own,
+            entry: entry_from(words[i], words[i + 1], words[i + 2], words[i + 3]),
+        };
+    }
+    Found {
+        place: free_place(words),
+        entry: trains::away(),
+    }
+}
+
+// Who is first without train n: the table is decoded only where that was train n.
+fn rest_in(words: &[u32], s: Settings, q: Question, was: First, n: u32) -> First
+    requires { ⌜ cabinetLength ≤ length (now words) ⌝ }
+    ensures { λ r. ⌜ r ≡ restOf s q was n (tableFrom (now (words .entry))) ⌝ }
+{
+    if trains::names(was, n) {
+        let table = table_from(words);
+        return table.first_but(s, q, n);
+    }
+    was
+}
+
+// What the table says of train n, as `trains::Table::ask` does.
+fn ask_in(words: &[u32], s: Settings, q: Question, was: First, n: u32) -> Asked
+    requires { ⌜ cabinetLength ≤ length (now words) ⌝ }
+    ensures { λ r. ⌜ (r ≡ askedOf (tableFrom (now (words .entry))) s q was n) × (isPresent (r .entry .standing) ≡ true → r .place < 96) ⌝ }
+{
+    let f = find_in(words, n);
+    let entry = f.entry;
+    let rest = rest_in(words, s, q, was, n);
+    Asked {
+        place: f.place,
+        entry: entry,
+        rest: rest,
+    }
 }
 
 // The cabinet that the words hold.
@@ -605,8 +706,9 @@ fn bench_event(words: &mut [u32], e: Event, n: u32) -> u64
         return wrong_length(train_number(n));
     }
     let head = head_from(words);
-    let table = table_from(words);
-    let a = table.ask(head.settings, bench::question_for(e), head.first_for(e), n);
+    let q = bench::question_for(e);
+    let was = head.first_for(e);
+    let a = ask_in(words, head.settings, q, was, n);
     let h = head.sense(e, n, a);
     let answer = h.answer;
     match answer {
