@@ -1,12 +1,13 @@
 -- The calls on a cabinet, from what its own steps give. Assumes nothing.
-use Prim.Native.Nat.{ℕ, zero, suc, _<_}
+use Prim.Native.Nat.{ℕ, zero, suc, _+_, _<_}
 use native.Mathlib.Omega.{arith}
 use mathlib.Core.Path.{_≡_, refl, sym, ap, ap₂, _∙_}
+use mathlib.Core.Bool.{false}
 use mathlib.Core.List.{List}
 use mathlib.Core.Logic.{inl}
 use lib.Dec.{eqb}
-use lib.ListN.{length}
-use borrow.Author.Tests.{leb-false}
+use lib.ListN.{length, set}
+use borrow.Author.Tests.{leb-false, lt-leb}
 use Rattle.lines.specs.Bytes.{splice}
 use Rattle.settings.specs.declared.Kind.{Kind}
 use Rattle.settings.specs.declared.Settings.{Settings}
@@ -17,14 +18,17 @@ use Rattle.trains.specs.declared.First.{First}
 use Rattle.trains.specs.declared.Found.{Found}
 use Rattle.trains.specs.declared.Table.{Table}
 use Rattle.trains.specs.Table.{freshTable, standingOf, noPlace, placeFor, foundFor}
+use Rattle.trains.specs.First.{reachedBy}
 use Rattle.trains.proofs.Laws.{place-room}
+use Rattle.arm.specs.declared.Command.the-variants.{Up}
 use Rattle.cabinet.specs.declared.Order.{Order}
+use Rattle.cabinet.specs.declared.Order.the-variants as orders
 use Rattle.cabinet.specs.declared.Answer.the-variants.{Taken, Refused}
 use Rattle.cabinet.specs.declared.Control.{Control}
 use Rattle.cabinet.specs.declared.Controlled.{Controlled}
 use Rattle.cabinet.specs.declared.Cabinet.{Cabinet}
 use Rattle.cabinet.specs.declared.Stepped.{Stepped}
-use Rattle.cabinet.specs.Cabinet.{numberOf, orderOf, freshCabinet, started, refused, approachRefusal, leaveRefusal, ticked, approached, left, clocked}
+use Rattle.cabinet.specs.Cabinet.{numberOf, orderOf, freshCabinet, started, refused, approachRefusal, leaveRefusal, order, lookedAt, later, ticked, approached, left, clocked}
 use Rattle.cabinet.proofs.Laws.{approach-says, leave-says}
 use Rattle.runs.specs.Claims as heard
 use Rattle.runs.specs.Letters.{letterOf}
@@ -32,10 +36,10 @@ use Rattle.runs.specs.Run.{orElse, orFull}
 use Rattle.stepwise.specs.declared.Named.{Named}
 use Rattle.stepwise.specs.declared.Named.the-variants.{As, Nothing}
 use Rattle.stepwise.specs.Words.{soonestAt, firstIn, tableFrom, settingsFrom, ticksFrom, controlFrom, cabinetFrom, cabinetWords}
-use Rattle.stepwise.specs.Calls.{Called, called, packedAnswer, answered, trainNumber, putClock, kindNamed}
+use Rattle.stepwise.specs.Calls.{Called, called, packedAnswer, answered, trainNumber, QuietTick, putClock, kindNamed}
 use Rattle.stepwise.specs.CabinetCalls.{cabinetStarted, cabinetTrain, cabinetHears, approaching, leaving, ticking, cabinetCalled}
 use Rattle.stepwise.proofs.Words.{entries-many, cabinet-length}
-use Rattle.stepwise.proofs.Calls.{lent-wrong, lent-there, answered-taken, answered-refused, order-taken, named-kind, named-none, start-taken, start-refused}
+use Rattle.stepwise.proofs.Calls.{lent-wrong, lent-there, answered-taken, answered-refused, order-taken, clock-quiet, named-kind, named-none, start-taken, start-refused}
 
 -- ---- the start
 
@@ -136,3 +140,13 @@ module _ (ws : List ℕ) (l : length ws ≡ 405) (s : Settings) (ticks : Ticks) 
 
   pub clock-refused : (k r : ℕ) → t .answer ≡ Refused k → r ≡ packedAnswer (t .answer) → called r ws ≡ cabinetCalled ws ticking
   clock-refused k r a packed = clock-called (called r ws) (answered-refused (t .answer) (putClock ws (orderOf (t .answer)) (t .control)) ws r packed k a)
+
+-- a tick that surely gives no command: nobody is due by the horizon of the command up
+pub quiet-tick : (ticks : Ticks) (f : First) (w : Control) (t : ℕ) → w .command ≡ Up → w .now < 9999999 → t ≡ w .now + 1 + ticks .fall → reachedBy t f ≡ false → QuietTick ticks f w
+unfolding ticked lookedAt order
+quiet-tick ticks f w t up l is none = record { goes-on = l; gives = λ s. rw (lt-leb 9999999 (w .now) l, up, ← is, none) }
+
+pub clock-still : (ws : List ℕ) → length ws ≡ 405 → (ticks : Ticks) (f : First) (w : Control) → ticks ≡ ticksFrom ws → f ≡ firstIn ws soonestAt → w ≡ controlFrom ws → QuietTick ticks f w →
+    called 0 (set ws 15 (w .now + 1)) ≡ cabinetCalled ws ticking
+clock-still ws l ticks f w et ef ew q =
+    clock-taken ws l (settingsFrom ws) ticks f w refl et ef ew _ (sym (q .gives (settingsFrom ws))) orders.Nothing _ refl (clock-quiet ws orders.Nothing (later w) (omega arith) refl)

@@ -10,6 +10,8 @@ use lib.Dec.{eqb}
 use lib.ListN.{length, getD}
 use Rattle.lines.specs.Bytes.{splice}
 use Rattle.settings.specs.declared.Kind.{Kind}
+use Rattle.settings.specs.declared.Settings.{Settings}
+use Rattle.settings.specs.declared.Ticks.{Ticks}
 use Rattle.settings.specs.Refusal.{refuse, unless}
 use Rattle.trains.specs.declared.Entry.{Entry}
 use Rattle.trains.specs.declared.First.{First}
@@ -21,7 +23,7 @@ use Rattle.cabinet.specs.declared.Answer.the-variants.{Taken, Refused}
 use Rattle.cabinet.specs.declared.Order.{Order}
 use Rattle.cabinet.specs.declared.Order.the-variants as order
 use Rattle.cabinet.specs.declared.Control.{Control}
-use Rattle.cabinet.specs.Cabinet.{numberOf}
+use Rattle.cabinet.specs.Cabinet.{numberOf, later, ticked}
 use Rattle.bench.specs.declared.Event.the-variants as events
 use Rattle.bench.specs.declared.Head.{Head}
 use Rattle.bench.specs.declared.Motion.{Motion}
@@ -77,6 +79,13 @@ trainNumber n = refuse (not (isTrain n)) 5 0
 -- the settings' own refusal, or 14; else the words of a fresh one
 abbrev pub startedBy : ℕ → List ℕ → List ℕ → Called
 startedBy k new ws = called k (unless k (λ j. ws) new)
+
+-- ---- a clock step of which nothing but the instant shows
+
+-- under any settings it is taken, and gives no command
+pub record QuietTick (ticks : Ticks) (soonest : First) (w : Control) : Type 0 where
+  pub goes-on : w .now < 9999999
+  pub gives : (s : Settings) → ticked s ticks soonest w ≡ record { answer = Taken order.Nothing; control = later w }
 
 -- ---- what a step that is taken writes
 
