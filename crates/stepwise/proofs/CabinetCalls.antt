@@ -2,12 +2,12 @@
 use Prim.Native.Nat.{ℕ, zero, suc, _+_, _<_}
 use native.Mathlib.Omega.{arith}
 use mathlib.Core.Path.{_≡_, refl, sym, ap, ap₂, _∙_}
-use mathlib.Core.Bool.{false}
+use mathlib.Core.Bool.{Bool, false, cond}
 use mathlib.Core.List.{List}
 use mathlib.Core.Logic.{inl}
 use lib.Dec.{eqb}
-use lib.ListN.{length, set}
-use borrow.Author.Tests.{leb-false, lt-leb}
+use lib.ListN.{length, getD, set}
+use borrow.Author.Tests.{eq-eqb, leb-false, lt-leb}
 use Rattle.lines.specs.Bytes.{splice}
 use Rattle.settings.specs.declared.Kind.{Kind}
 use Rattle.settings.specs.declared.Settings.{Settings}
@@ -20,7 +20,7 @@ use Rattle.trains.specs.declared.Table.{Table}
 use Rattle.trains.specs.Table.{freshTable, standingOf, noPlace, placeFor, foundFor}
 use Rattle.trains.specs.First.{reachedBy}
 use Rattle.trains.proofs.Laws.{place-room}
-use Rattle.arm.specs.declared.Command.the-variants.{Up}
+use Rattle.arm.specs.declared.Command.the-variants.{Up, Down}
 use Rattle.cabinet.specs.declared.Order.{Order}
 use Rattle.cabinet.specs.declared.Order.the-variants as orders
 use Rattle.cabinet.specs.declared.Answer.the-variants.{Taken, Refused}
@@ -145,6 +145,13 @@ module _ (ws : List ℕ) (l : length ws ≡ 405) (s : Settings) (ticks : Ticks) 
 pub quiet-tick : (ticks : Ticks) (f : First) (w : Control) (t : ℕ) → w .command ≡ Up → w .now < 9999999 → t ≡ w .now + 1 + ticks .fall → reachedBy t f ≡ false → QuietTick ticks f w
 unfolding ticked lookedAt order
 quiet-tick ticks f w t up l is none = record { goes-on = l; gives = λ s. rw (lt-leb 9999999 (w .now) l, up, ← is, none) }
+
+-- by the words
+pub quiet-words : (ws : List ℕ) (ticks : Ticks) (f : First) (t : ℕ) → getD ws 16 0 ≡ 0 → getD ws 15 0 < 9999999 → ticks ≡ ticksFrom ws → f ≡ firstIn ws soonestAt →
+    t ≡ getD ws 15 0 + 1 + ticks .fall → reachedBy t f ≡ false → QuietTick (ticksFrom ws) (firstIn ws soonestAt) (controlFrom ws)
+quiet-words ws ticks f t up l et ef is none =
+    quiet-tick (ticksFrom ws) (firstIn ws soonestAt) (controlFrom ws) t (ap (λ (b : Bool). cond b Up Down) (eq-eqb (getD ws 16 0) 0 up)) l
+    (is ∙ ap (λ (x : Ticks). getD ws 15 0 + 1 + x .fall) et) (ap (reachedBy t) (sym ef) ∙ none)
 
 pub clock-still : (ws : List ℕ) → length ws ≡ 405 → (ticks : Ticks) (f : First) (w : Control) → ticks ≡ ticksFrom ws → f ≡ firstIn ws soonestAt → w ≡ controlFrom ws → QuietTick ticks f w →
     called 0 (set ws 15 (w .now + 1)) ≡ cabinetCalled ws ticking

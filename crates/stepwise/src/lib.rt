@@ -15,7 +15,7 @@ ghost use Rattle.cabinet.specs.declared.Answer.the-variants.{Taken};
 ghost use Rattle.cabinet.specs.declared.Order.{Order};
 ghost use Rattle.runs.specs.Letters.{letterOf};
 ghost use Rattle.runs.specs.Run.{orElse};
-ghost use Rattle.stepwise.specs.Words.{tableAt, placeAt, cabinetLength, benchLength, commandFrom, commandNumber, kindFrom, kindAs, standingFrom, standingNumber, entryFrom, entryIn, entryWords, tableFrom};
+ghost use Rattle.stepwise.specs.Words.{soonestAt, tableAt, placeAt, cabinetLength, benchLength, commandFrom, commandNumber, kindFrom, kindAs, standingFrom, standingNumber, entryFrom, entryIn, entryWords, tableFrom};
 ghost use Rattle.stepwise.specs.Words.{entriesWords, firstIn, firstWords, settingsFrom, ticksFrom, ticksWords, controlFrom, controlWords, cabinetFrom};
 ghost use Rattle.stepwise.specs.Words.{cabinetWords, headFrom, armWords, benchWords};
 ghost use Rattle.stepwise.specs.Calls.{called, packedAnswer, trainNumber, QuietTick, putClock, putControl, putMotion, putStep, putEvent, kindNamed};
@@ -665,20 +665,20 @@ pub fn cabinet_leave(words: &mut [u32], n: u32) -> u64
 }
 
 // Whether a tick surely gives no command: the command is up, the clock goes on, and nobody is due by the look's horizon.
-fn is_quiet(ticks: Ticks, soonest: First, w: Control) -> bool
-    ensures { λ r. ⌜ (r ≡ true → QuietTick ticks soonest w) ⌝ }
+fn is_quiet(words: &[u32]) -> bool
+    requires { ⌜ cabinetLength ≤ length (now words) ⌝ }
+    ensures { λ r. ⌜ (r ≡ true → QuietTick (ticksFrom (now (words .entry))) (firstIn (now (words .entry)) soonestAt) (controlFrom (now (words .entry)))) ⌝ }
 {
-    let command = w.command;
-    match command {
-        Command::Up => {
-            if 9999999 <= w.now {
-                return false;
-            }
-            let horizon = (w.now as u64) + 1 + (ticks.fall as u64);
-            !trains::reached(soonest, horizon)
-        }
-        Command::Down => false,
+    if words[CONTROL + 1] != 0 {
+        return false;
     }
+    let now = words[CONTROL];
+    if 9999999 <= now {
+        return false;
+    }
+    let ticks = ticks_from(words);
+    let horizon = (now as u64) + 1 + (ticks.fall as u64);
+    !trains::reached(first_from(words, SOONEST), horizon)
 }
 
 // The clock moves by one tick (`cabinet::tick`). Refusal 10; 14 last, where there are not 405 words.
@@ -688,14 +688,14 @@ pub fn cabinet_clock(words: &mut [u32]) -> u64
     if words.len() != CABINET {
         return wrong_length(0);
     }
-    let ticks = ticks_from(words);
-    let soonest = first_from(words, SOONEST);
-    let before = control_from(words);
-    if is_quiet(ticks, soonest, before) {
-        words[CONTROL] = before.now + 1;
+    if is_quiet(words) {
+        words[CONTROL] = words[CONTROL] + 1;
         return 0;
     }
-    let w = cabinet::tick(settings_from(words), ticks, soonest, before);
+    let s = settings_from(words);
+    let ticks = ticks_from(words);
+    let soonest = first_from(words, SOONEST);
+    let w = cabinet::tick(s, ticks, soonest, control_from(words));
     let answer = w.answer;
     match answer {
         Answer::Taken(o) => settle_clock(words, o, w.control),
