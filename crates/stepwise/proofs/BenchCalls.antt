@@ -19,7 +19,7 @@ use Rattle.trains.specs.declared.Table.{Table}
 use Rattle.trains.specs.Table.{awayEntry, freshTable, placeFor}
 use Rattle.cabinet.specs.declared.Order.{Order}
 use Rattle.cabinet.specs.declared.Answer.the-variants.{Taken, Refused}
-use Rattle.cabinet.specs.Cabinet.{numberOf}
+use Rattle.cabinet.specs.Cabinet.{numberOf, orderOf}
 use Rattle.bench.specs.declared.Event.{Event}
 use Rattle.bench.specs.declared.Event.the-variants as events
 use Rattle.bench.specs.declared.Head.{Head}
@@ -39,7 +39,7 @@ use Rattle.stepwise.specs.Words.{tableFrom, headFrom, benchFrom, benchWo
 use Rattle.stepwise.specs.Calls.{Called, called, packedAnswer, answered, trainNumber, putMotion, putEvent, entryThere, kindNamed}
 use Rattle.stepwise.specs.BenchCalls.{benchStarted, benchTrain, benchSenses, benchTakes, approaching, ticking, benchCalled}
 use Rattle.stepwise.proofs.Words.{entries-many, bench-length}
-use Rattle.stepwise.proofs.Calls.{lent-wrong, lent-there, answered-taken, answered-refused, named-kind, named-none, start-taken, start-refused}
+use Rattle.stepwise.proofs.Calls.{lent-wrong, lent-there, answered-taken, answered-refused, order-taken, named-kind, named-none, start-taken, start-refused}
 
 -- ---- the start
 
@@ -118,15 +118,15 @@ unfolding benchCalled benchTakes
 clock-wrong ws reading read own r n p q e = lent-wrong 411 ws (arm.numberOf (readingOf reading)) _ r n (e ∙ rw (q, p))
 
 module _ (ws : List ℕ) (l : length ws ≡ 411) (reading : Float) (h : Head) (read : Reading) (eh : h ≡ headFrom ws) (er : read ≡ readingOf reading)
-    (t : Ticked) (is : t ≡ headTicked h read) (r : ℕ) (packed : r ≡ packedAnswer (t .answer)) where
-  clock-called : (x : Called) → x ≡ answered (t .answer) (putMotion ws (t .motion)) ws → x ≡ benchCalled ws (ticking reading)
+    (t : Ticked) (is : t ≡ headTicked h read) where
+  clock-called : (x : Called) → x ≡ answered (t .answer) (putMotion ws (orderOf (t .answer)) (t .motion)) ws → x ≡ benchCalled ws (ticking reading)
   unfolding benchCalled benchTakes benchFrom clockRead
   clock-called x e =
       let words : t ≡ headTicked (headFrom ws) (readingOf reading) = is ∙ rw (eh, er) in
-      lent-there 411 ws (arm.numberOf (readingOf reading)) _ x l (e ∙ ap (λ (u : Ticked). answered (u .answer) (putMotion ws (u .motion)) ws) words)
+      lent-there 411 ws (arm.numberOf (readingOf reading)) _ x l (e ∙ ap (λ (u : Ticked). answered (u .answer) (putMotion ws (orderOf (u .answer)) (u .motion)) ws) words)
 
-  pub clock-taken : (o : Order) (after : List ℕ) → t .answer ≡ Taken o → after ≡ putMotion ws (t .motion) → called r after ≡ benchCalled ws (ticking reading)
-  clock-taken o after a e = clock-called (called r after) (answered-taken (t .answer) (putMotion ws (t .motion)) ws r packed o after a e)
+  pub clock-taken : (o : Order) (x : Called) → t .answer ≡ Taken o → x ≡ called (packedAnswer (Taken o)) (putMotion ws o (t .motion)) → x ≡ benchCalled ws (ticking reading)
+  clock-taken o x a e = clock-called x (e ∙ order-taken (t .answer) (λ p. putMotion ws p (t .motion)) ws o a)
 
-  pub clock-refused : (k : ℕ) → t .answer ≡ Refused k → called r ws ≡ benchCalled ws (ticking reading)
-  clock-refused k a = clock-called (called r ws) (answered-refused (t .answer) (putMotion ws (t .motion)) ws r packed k a)
+  pub clock-refused : (k r : ℕ) → t .answer ≡ Refused k → r ≡ packedAnswer (t .answer) → called r ws ≡ benchCalled ws (ticking reading)
+  clock-refused k r a packed = clock-called (called r ws) (answered-refused (t .answer) (putMotion ws (orderOf (t .answer)) (t .motion)) ws r packed k a)

@@ -1,5 +1,5 @@
 -- The words of a bench that only calls change, over every list of calls. Assumes nothing.
-use Prim.Native.Nat.{ℕ, zero, suc, _<_}
+use Prim.Native.Nat.{ℕ, zero, suc, _+_, _<_}
 use native.Mathlib.Omega.{arith}
 use mathlib.Core.Path.{_≡_, refl, sym, ap, _∙_}
 use mathlib.Core.Bool.{Bool, true, false, cond, not, true≢false, false≢true}
@@ -26,7 +26,7 @@ use Rattle.trains.proofs.Laws.{place-room, train-says}
 use Rattle.cabinet.specs.declared.Order.{Order}
 use Rattle.cabinet.specs.declared.Answer.the-variants as answers
 use Rattle.cabinet.specs.declared.Control.{Control}
-use Rattle.cabinet.specs.Cabinet.{lookedAt, later, ticked}
+use Rattle.cabinet.specs.Cabinet.{order, lookedAt, later, ticked}
 use Rattle.cabinet.proofs.Laws.{approach-says}
 use Rattle.bench.specs.declared.Event.{Event}
 use Rattle.bench.specs.declared.Event.the-variants as events
@@ -157,7 +157,7 @@ module _ (b : Bench) (h : BenchHoldable b) where
       go ended p (suc k) e = (refl, h)
       go true p zero e = absurd (true≢false (sym p ∙ clock-says b r e .0))
       go false p zero e = (
-        ap (called _) (motion-written b (h .table .entries) (record { control = lookedAt (b .head .settings) (b .head .ticks) (b .head .soonest) (later (b .head .motion .control)) .control; angle = angleOf r; previous = b .head .motion .angle })),
+        ap (called _) (motion-written b (h .table .entries) (nowOf b + 1) (angleOf r) (b .head .motion .angle) (order (b .head .settings) (b .head .ticks) (b .head .soonest) (later (b .head .motion .control)))),
         record { table = h .table; angle = angle-small r (clock-says b r e .1); previous = h .angle },
       )
 

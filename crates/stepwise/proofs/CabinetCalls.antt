@@ -1,12 +1,13 @@
 -- The calls on a cabinet, from what its own steps give. Assumes nothing.
-use Prim.Native.Nat.{ℕ, zero, suc, _<_}
+use Prim.Native.Nat.{ℕ, zero, suc, _+_, _<_}
 use native.Mathlib.Omega.{arith}
 use mathlib.Core.Path.{_≡_, refl, sym, ap, ap₂, _∙_}
+use mathlib.Core.Bool.{Bool, false, cond}
 use mathlib.Core.List.{List}
 use mathlib.Core.Logic.{inl}
 use lib.Dec.{eqb}
-use lib.ListN.{length}
-use borrow.Author.Tests.{leb-false}
+use lib.ListN.{length, getD, set}
+use borrow.Author.Tests.{eq-eqb, leb-false, lt-leb}
 use Rattle.lines.specs.Bytes.{splice}
 use Rattle.settings.specs.declared.Kind.{Kind}
 use Rattle.settings.specs.declared.Settings.{Settings}
@@ -17,14 +18,17 @@ use Rattle.trains.specs.declared.First.{First}
 use Rattle.trains.specs.declared.Found.{Found}
 use Rattle.trains.specs.declared.Table.{Table}
 use Rattle.trains.specs.Table.{freshTable, standingOf, noPlace, placeFor, foundFor}
+use Rattle.trains.specs.First.{reachedBy}
 use Rattle.trains.proofs.Laws.{place-room}
+use Rattle.arm.specs.declared.Command.the-variants.{Up, Down}
 use Rattle.cabinet.specs.declared.Order.{Order}
+use Rattle.cabinet.specs.declared.Order.the-variants as orders
 use Rattle.cabinet.specs.declared.Answer.the-variants.{Taken, Refused}
 use Rattle.cabinet.specs.declared.Control.{Control}
 use Rattle.cabinet.specs.declared.Controlled.{Controlled}
 use Rattle.cabinet.specs.declared.Cabinet.{Cabinet}
 use Rattle.cabinet.specs.declared.Stepped.{Stepped}
-use Rattle.cabinet.specs.Cabinet.{numberOf, freshCabinet, started, refused, approachRefusal, leaveRefusal, ticked, approached, left, clocked}
+use Rattle.cabinet.specs.Cabinet.{numberOf, orderOf, freshCabinet, started, refused, approachRefusal, leaveRefusal, order, lookedAt, later, ticked, approached, left, clocked}
 use Rattle.cabinet.proofs.Laws.{approach-says, leave-says}
 use Rattle.runs.specs.Claims as heard
 use Rattle.runs.specs.Letters.{letterOf}
@@ -32,10 +36,10 @@ use Rattle.runs.specs.Run.{orElse, orFull}
 use Rattle.stepwise.specs.declared.Named.{Named}
 use Rattle.stepwise.specs.declared.Named.the-variants.{As, Nothing}
 use Rattle.stepwise.specs.Words.{soonestAt, firstIn, tableFrom, settingsFrom, ticksFrom, controlFrom, cabinetFrom, cabinetWords}
-use Rattle.stepwise.specs.Calls.{Called, called, packedAnswer, answered, trainNumber, putControl, kindNamed}
+use Rattle.stepwise.specs.Calls.{Called, called, packedAnswer, answered, trainNumber, QuietTick, putClock, kindNamed}
 use Rattle.stepwise.specs.CabinetCalls.{cabinetStarted, cabinetTrain, cabinetHears, approaching, leaving, ticking, cabinetCalled}
 use Rattle.stepwise.proofs.Words.{entries-many, cabinet-length}
-use Rattle.stepwise.proofs.Calls.{lent-wrong, lent-there, answered-taken, answered-refused, named-kind, named-none, start-taken, start-refused}
+use Rattle.stepwise.proofs.Calls.{lent-wrong, lent-there, answered-taken, answered-refused, order-taken, clock-quiet, named-kind, named-none, start-taken, start-refused}
 
 -- ---- the start
 
@@ -124,15 +128,32 @@ unfolding cabinetCalled cabinetHears
 clock-wrong ws r n e = lent-wrong 405 ws 0 _ r n e
 
 module _ (ws : List ℕ) (l : length ws ≡ 405) (s : Settings) (ticks : Ticks) (f : First) (w : Control) (es : s ≡ settingsFrom ws) (et : ticks ≡ ticksFrom ws)
-    (ef : f ≡ firstIn ws soonestAt) (ew : w ≡ controlFrom ws) (t : Controlled) (is : t ≡ ticked s ticks f w) (r : ℕ) (packed : r ≡ packedAnswer (t .answer)) where
-  clock-called : (x : Called) → x ≡ answered (t .answer) (putControl ws (t .control)) ws → x ≡ cabinetCalled ws ticking
+    (ef : f ≡ firstIn ws soonestAt) (ew : w ≡ controlFrom ws) (t : Controlled) (is : t ≡ ticked s ticks f w) where
+  clock-called : (x : Called) → x ≡ answered (t .answer) (putClock ws (orderOf (t .answer)) (t .control)) ws → x ≡ cabinetCalled ws ticking
   unfolding cabinetCalled cabinetHears cabinetFrom clocked
   clock-called x e =
       let words : t ≡ ticked (settingsFrom ws) (ticksFrom ws) (firstIn ws soonestAt) (controlFrom ws) = is ∙ rw (es, et, ef, ew) in
-      lent-there 405 ws 0 _ x l (e ∙ ap (λ (u : Controlled). answered (u .answer) (putControl ws (u .control)) ws) words)
+      lent-there 405 ws 0 _ x l (e ∙ ap (λ (u : Controlled). answered (u .answer) (putClock ws (orderOf (u .answer)) (u .control)) ws) words)
 
-  pub clock-taken : (o : Order) (after : List ℕ) → t .answer ≡ Taken o → after ≡ putControl ws (t .control) → called r after ≡ cabinetCalled ws ticking
-  clock-taken o after a e = clock-called (called r after) (answered-taken (t .answer) (putControl ws (t .control)) ws r packed o after a e)
+  pub clock-taken : (o : Order) (x : Called) → t .answer ≡ Taken o → x ≡ called (packedAnswer (Taken o)) (putClock ws o (t .control)) → x ≡ cabinetCalled ws ticking
+  clock-taken o x a e = clock-called x (e ∙ order-taken (t .answer) (λ p. putClock ws p (t .control)) ws o a)
 
-  pub clock-refused : (k : ℕ) → t .answer ≡ Refused k → called r ws ≡ cabinetCalled ws ticking
-  clock-refused k a = clock-called (called r ws) (answered-refused (t .answer) (putControl ws (t .control)) ws r packed k a)
+  pub clock-refused : (k r : ℕ) → t .answer ≡ Refused k → r ≡ packedAnswer (t .answer) → called r ws ≡ cabinetCalled ws ticking
+  clock-refused k r a packed = clock-called (called r ws) (answered-refused (t .answer) (putClock ws (orderOf (t .answer)) (t .control)) ws r packed k a)
+
+-- a tick that surely gives no command: nobody is due by the horizon of the command up
+pub quiet-tick : (ticks : Ticks) (f : First) (w : Control) (t : ℕ) → w .command ≡ Up → w .now < 9999999 → t ≡ w .now + 1 + ticks .fall → reachedBy t f ≡ false → QuietTick ticks f w
+unfolding ticked lookedAt order
+quiet-tick ticks f w t up l is none = record { goes-on = l; gives = λ s. rw (lt-leb 9999999 (w .now) l, up, ← is, none) }
+
+-- by the words
+pub quiet-words : (ws : List ℕ) (ticks : Ticks) (f : First) (t : ℕ) → getD ws 16 0 ≡ 0 → getD ws 15 0 < 9999999 → ticks ≡ ticksFrom ws → f ≡ firstIn ws soonestAt →
+    t ≡ getD ws 15 0 + 1 + ticks .fall → reachedBy t f ≡ false → QuietTick (ticksFrom ws) (firstIn ws soonestAt) (controlFrom ws)
+quiet-words ws ticks f t up l et ef is none =
+    quiet-tick (ticksFrom ws) (firstIn ws soonestAt) (controlFrom ws) t (ap (λ (b : Bool). cond b Up Down) (eq-eqb (getD ws 16 0) 0 up)) l
+    (is ∙ ap (λ (x : Ticks). getD ws 15 0 + 1 + x .fall) et) (ap (reachedBy t) (sym ef) ∙ none)
+
+pub clock-still : (ws : List ℕ) → length ws ≡ 405 → (ticks : Ticks) (f : First) (w : Control) → ticks ≡ ticksFrom ws → f ≡ firstIn ws soonestAt → w ≡ controlFrom ws → QuietTick ticks f w →
+    called 0 (set ws 15 (w .now + 1)) ≡ cabinetCalled ws ticking
+clock-still ws l ticks f w et ef ew q =
+    clock-taken ws l (settingsFrom ws) ticks f w refl et ef ew _ (sym (q .gives (settingsFrom ws))) orders.Nothing _ refl (clock-quiet ws orders.Nothing (later w) (omega arith) refl)

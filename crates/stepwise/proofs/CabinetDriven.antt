@@ -1,5 +1,5 @@
 -- The words of a cabinet that only calls change, over every list of calls. Assumes nothing.
-use Prim.Native.Nat.{ℕ, _<_}
+use Prim.Native.Nat.{ℕ, _+_, _<_}
 use native.Mathlib.Omega.{arith}
 use mathlib.Core.Path.{_≡_, refl, ap, _∙_}
 use mathlib.Core.Bool.{Bool, true, false, cond}
@@ -20,7 +20,7 @@ use Rattle.trains.proofs.Laws.{train-says}
 use Rattle.cabinet.specs.declared.Answer.the-variants.{Refused}
 use Rattle.cabinet.specs.declared.Cabinet.{Cabinet}
 use Rattle.cabinet.specs.declared.Stepped.{Stepped}
-use Rattle.cabinet.specs.Cabinet.{freshCabinet, lookedAt, looked, refused, placed, later, ticked, leaveRefusal, approached, left, clocked, withControl}
+use Rattle.cabinet.specs.Cabinet.{freshCabinet, order, lookedAt, looked, refused, placed, later, ticked, leaveRefusal, approached, left, clocked, withControl}
 use Rattle.cabinet.proofs.Laws.{approach-says}
 use Rattle.runs.specs.Claims.{Heard, approaching, leaving, ticking, cabinetStepped, cabinetNext, cabinetAnswer, cabinetAfter}
 use Rattle.runs.proofs.Claims.{claims}
@@ -33,7 +33,7 @@ use Rattle.stepwise.proofs.Words.{cabinet-length}
 use Rattle.stepwise.proofs.Calls.{lent-held, start-accepted}
 use Rattle.stepwise.proofs.CabinetCalls.{approach-place, leave-place}
 use Rattle.stepwise.proofs.Back.{read-back}
-use Rattle.stepwise.proofs.Written.{control-written, step-written}
+use Rattle.stepwise.proofs.Written.{clock-written, step-written}
 use Rattle.stepwise.proofs.Lists.{fresh-holdable, put-holdable, list-good, list-words, list-answers}
 
 module _ (c : Cabinet) (h : Holdable (c .table)) where
@@ -70,7 +70,7 @@ module _ (c : Cabinet) (h : Holdable (c .table)) where
           let m = withControl c (cond ended (record { answer = Refused 10; control = c .control }) (lookedAt (c .settings) (c .ticks) (c .soonest) (later (c .control)))) in
           cabinetTicked (cabinetWords c) m ≡ stepWords m
       go true = refl
-      go false = ap (called _) (simp append-nil at (control-written c [] (lookedAt (c .settings) (c .ticks) (c .soonest) (later (c .control)) .control)))
+      go false = ap (called _) (simp append-nil at (clock-written c [] (c .control .now + 1) (order (c .settings) (c .ticks) (c .soonest) (later (c .control)))))
 
   -- ---- whatever it hears
 

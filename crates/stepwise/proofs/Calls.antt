@@ -1,25 +1,28 @@
 -- What a call answers and leaves, from what the functions that it calls give. Assumes nothing.
-use Prim.Native.Nat.{ℕ, zero, suc}
+use Prim.Native.Nat.{ℕ, zero, suc, _≤_}
 use native.Mathlib.Omega.{arith}
 use mathlib.Core.Path.{_≡_, refl, sym, ap, _∙_}
 use mathlib.Core.Bool.{not}
 use mathlib.Core.List.{List}
 use lib.Dec.{eqb}
-use lib.ListN.{length}
+use lib.ListN.{length, set}
 use borrow.Author.Tests.{eq-eqb, ne-eqb, eqb-true, not-false}
 use Rattle.lines.specs.Bytes.{splice}
+use Rattle.lines.proofs.Splices.{splice-one}
 use Rattle.settings.specs.declared.Kind.{Kind}
 use Rattle.settings.specs.declared.Settings.{Settings}
 use Rattle.settings.specs.Settings.{settingsRefusal, verdictOf, verdict}
 use Rattle.settings.proofs.Laws.{refuse-none}
 use Rattle.cabinet.specs.declared.Order.{Order}
+use Rattle.cabinet.specs.declared.Order.the-variants as order
+use Rattle.cabinet.specs.declared.Control.{Control}
 use Rattle.cabinet.specs.declared.Answer.{Answer}
 use Rattle.cabinet.specs.declared.Answer.the-variants.{Taken, Refused}
-use Rattle.cabinet.specs.Cabinet.{numberOf, startAnswer}
+use Rattle.cabinet.specs.Cabinet.{numberOf, orderOf, startAnswer}
 use Rattle.runs.specs.Run.{orElse, orFull}
 use Rattle.stepwise.specs.declared.Named.{Named}
 use Rattle.stepwise.specs.declared.Named.the-variants.{As, Nothing}
-use Rattle.stepwise.specs.Calls.{Called, called, packedAnswer, answered, lent, startedBy, ofKind, orNoStep}
+use Rattle.stepwise.specs.Calls.{Called, called, packedAnswer, answered, lent, startedBy, putClock, putControl, ofKind, orNoStep}
 use Rattle.stepwise.proofs.Words.{all-spliced}
 
 -- ---- words of the wrong length, and of the right one
@@ -44,6 +47,21 @@ module _ (a : Answer) (new ws : List ℕ) (r : ℕ) (packed : r ≡ packedAnswer
 
   pub answered-refused : (k : ℕ) → a ≡ Refused k → called r ws ≡ answered a new ws
   answered-refused k t = rw (packed, t)
+
+-- one taken, whose words are by the order that is given
+pub order-taken : (a : Answer) (new : Order → List ℕ) (ws : List ℕ) (o : Order) → a ≡ Taken o → called (packedAnswer (Taken o)) (new o) ≡ answered a (new (orderOf a)) ws
+order-taken a new ws o t = rw t
+
+-- a clock step taken, by its order
+module _ (ws : List ℕ) (o : Order) (w : Control) where
+  pub clock-quiet : 16 ≤ length ws → o ≡ order.Nothing → called 0 (set ws 15 (w .now)) ≡ called (packedAnswer (Taken o)) (putClock ws o w)
+  clock-quiet l e = rw e (ap (called 0) (splice-one ws 15 (w .now) (omega arith)))
+
+  pub clock-lowers : (n r : ℕ) (after : List ℕ) → o ≡ order.Lower n → after ≡ putControl ws w → r ≡ packedAnswer (Taken o) → called r after ≡ called (packedAnswer (Taken o)) (putClock ws o w)
+  clock-lowers n r after e p q = rw (q, p, e)
+
+  pub clock-raises : (r : ℕ) (after : List ℕ) → o ≡ order.Raise → after ≡ putControl ws w → r ≡ packedAnswer (Taken o) → called r after ≡ called (packedAnswer (Taken o)) (putClock ws o w)
+  clock-raises r after e p q = rw (q, p, e)
 
 -- ---- an approach whose letter names a kind, and one whose letter names none
 

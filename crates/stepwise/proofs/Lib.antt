@@ -1,5 +1,6 @@
 pub mod Words
 pub mod Packed
+pub mod Search
 pub mod Calls
 pub mod CabinetCalls
 pub mod BenchCalls

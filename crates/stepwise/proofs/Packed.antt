@@ -15,7 +15,7 @@ use Rattle.cabinet.specs.declared.Order.the-variants.{Nothing, Lower, Raise}
 use Rattle.cabinet.specs.declared.Answer.{Answer}
 use Rattle.cabinet.specs.declared.Answer.the-variants.{Taken, Refused}
 use Rattle.cabinet.specs.declared.Stepped.{Stepped}
-use Rattle.cabinet.specs.Cabinet.{numberOf, approached, left, clocked}
+use Rattle.cabinet.specs.Cabinet.{numberOf, approached, left, clocked, orderOf}
 use Rattle.bench.specs.declared.Event.{Event}
 use Rattle.bench.specs.declared.Event.the-variants as events
 use Rattle.bench.specs.declared.Moved.{Moved}
@@ -25,7 +25,7 @@ use Rattle.runs.specs.declared.Step.{Step}
 use Rattle.runs.specs.declared.Step.the-variants.{Approach, Occupy, Leave, Clock}
 use Rattle.runs.specs.Run.{answerByte, answerTrain, orElse}
 use Rattle.stepwise.specs.Words.{cabinetLength, benchLength, tableFrom, cabinetFrom, benchFrom}
-use Rattle.stepwise.specs.Calls.{Called, called, Unpacks, answered, lent, trainNumber, putControl, putMotion, putStep, putEvent, entryThere, orNoStep}
+use Rattle.stepwise.specs.Calls.{Called, called, Unpacks, answered, lent, trainNumber, putClock, putMotion, putStep, putEvent, entryThere, orNoStep}
 use Rattle.stepwise.specs.CabinetCalls.{cabinetTrain, cabinetTicked, cabinetHears, heardIn, cabinetCalled}
 use Rattle.stepwise.specs.BenchCalls.{benchTrain, benchTicked, benchSenses, benchTakes, stepIn, benchCalled}
 use Rattle.stepwise.specs.Driven.{RefusalsKeep}
@@ -96,7 +96,7 @@ module _ (ws : List ℕ) where
       (answered-keeps (m .answer) (putStep ws (m .cabinet .control) (m .cabinet .soonest) place (entryThere (m .cabinet .table) place)) ws)
 
   cabinet-tick : (m : Stepped) → Kept ws (lent cabinetLength ws 0 (cabinetTicked ws m))
-  cabinet-tick m = lent-keeps cabinetLength ws 0 (cabinetTicked ws m) (answered-keeps (m .answer) (putControl ws (m .cabinet .control)) ws)
+  cabinet-tick m = lent-keeps cabinetLength ws 0 (cabinetTicked ws m) (answered-keeps (m .answer) (putClock ws (orderOf (m .answer)) (m .cabinet .control)) ws)
 
   hears-keeps : (x : Heard) → Kept ws (cabinetHears ws x)
   unfolding cabinetHears
@@ -113,7 +113,7 @@ module _ (ws : List ℕ) where
       lent-keeps benchLength ws (trainNumber n) (benchTrain ws place m) (answered-keeps (m .answer) (putEvent ws (m .bench .head) place (entryThere (m .bench .table) place)) ws)
 
   bench-tick : (own : ℕ) (m : Moved) → Kept ws (lent benchLength ws own (benchTicked ws m))
-  bench-tick own m = lent-keeps benchLength ws own (benchTicked ws m) (answered-keeps (m .answer) (putMotion ws (m .bench .head .motion)) ws)
+  bench-tick own m = lent-keeps benchLength ws own (benchTicked ws m) (answered-keeps (m .answer) (putMotion ws (orderOf (m .answer)) (m .bench .head .motion)) ws)
 
   takes-keeps : (x : Step) → Kept ws (benchTakes ws x)
   unfolding benchTakes

@@ -9,12 +9,15 @@ use Rattle.lines.specs.Bytes.{splice}
 use Rattle.trains.specs.declared.Entry.{Entry}
 use Rattle.trains.specs.declared.First.{First}
 use Rattle.trains.specs.Table.{awayEntry}
+use Rattle.cabinet.specs.declared.Order.{Order}
+use Rattle.cabinet.specs.declared.Order.the-variants as order
 use Rattle.cabinet.specs.declared.Control.{Control}
 use Rattle.cabinet.specs.declared.Cabinet.{Cabinet}
+use Rattle.cabinet.specs.Cabinet.{commandAfter}
 use Rattle.bench.specs.declared.Bench.{Bench}
 use Rattle.bench.specs.declared.Motion.{Motion}
 use Rattle.stepwise.specs.Words.{entryWords, entriesWords, firstWords, cabinetWords, cabinetIn, armWords, benchWords}
-use Rattle.stepwise.specs.Calls.{putControl, putMotion, putStep}
+use Rattle.stepwise.specs.Calls.{putClock, putControl, putMotion, putStep}
 use Rattle.stepwise.proofs.Words.{entries-length, entries-append, cabinet-length}
 
 -- ---- a part of a list written over by one that is as long
@@ -70,19 +73,35 @@ module _ (c : Cabinet) (rest : List ℕ) (w : Control) where
   unfolding cabinetWords
   step-written f place e h = entry-written (take 21 (cabinetWords (steppedTo f place e))) rest (c .table .places) place h e (21 + 4 * place) refl
 
+-- ---- a clock step's words
+
+module _ (c : Cabinet) (rest : List ℕ) (now : ℕ) where
+  -- the clock, and the command after an order
+  abbrev pub orderedTo : Order → Control
+  orderedTo o = record { now = now; command = commandAfter o (c .control .command) }
+
+  -- where none is given, the command's word is already the one that stays
+  pub clock-written : (o : Order) → putClock (cabinetWords c ++ rest) o (orderedTo o) ≡ cabinetWords (clockedTo c rest (orderedTo o)) ++ rest
+  unfolding cabinetWords
+  clock-written order.Nothing = refl
+  clock-written (order.Lower n) = refl
+  clock-written order.Raise = refl
+
 -- ---- a bench's
 
 module _ (b : Bench) (many : length (b .table .places) ≡ 96) where
-  -- the arm, after the clock and the command
-  pub motion-written : (m : Motion) → putMotion (benchWords b) m
+  -- the arm, and the clock and the command after an order
+  pub motion-written : (now angle previous : ℕ) (o : Order) →
+      let m : Motion = record { control = orderedTo (cabinetIn b) [] now o; angle = angle; previous = previous } in
+      putMotion (benchWords b) o m
       ≡ benchWords (record { head = record { settings = b .head .settings; ticks = b .head .ticks; motion = m; soonest = b .head .soonest; latest = b .head .latest }; table = b .table })
   unfolding benchWords
-  motion-written m =
-      let words = cabinetWords (clockedTo (cabinetIn b) [] (m .control)) in
+  motion-written now angle previous o =
+      let words = cabinetWords (cabinetIn b) in
       let old = armWords (b .head .motion .angle) (b .head .motion .previous) in
-      let l : length words ≡ 405 = cabinet-length (clockedTo (cabinetIn b) [] (m .control)) many in
-      ap (λ (d : List ℕ). splice d 405 (armWords (m .angle) (m .previous))) (control-written (cabinetIn b) (old ++ firstWords (b .head .latest)) (m .control))
-      ∙ splice-part words old (armWords (m .angle) (m .previous)) (firstWords (b .head .latest)) 405 l refl
+      let l : length words ≡ 405 = cabinet-length (cabinetIn b) many in
+      ap (λ (d : List ℕ). putClock d o (orderedTo (cabinetIn b) [] now o)) (splice-part words old (armWords angle previous) (firstWords (b .head .latest)) 405 l refl)
+      ∙ clock-written (cabinetIn b) (armWords angle previous ++ firstWords (b .head .latest)) now o
 
   -- an event that leaves the arm: an entry, and who is first
   pub event-written : (w : Control) (soonest latest : First) (place : ℕ) (e : Entry) → place < 96 →

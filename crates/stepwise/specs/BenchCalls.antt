@@ -10,6 +10,7 @@ use Rattle.settings.specs.Settings.{settingsRefusal}
 use Rattle.arm.specs.Shown as arm
 use Rattle.arm.specs.Shown.{readingOf}
 use Rattle.trains.specs.Table.{placeFor}
+use Rattle.cabinet.specs.Cabinet.{orderOf}
 use Rattle.bench.specs.declared.Event.{Event}
 use Rattle.bench.specs.declared.Event.the-variants as events
 use Rattle.bench.specs.declared.Moved.{Moved}
@@ -33,7 +34,7 @@ benchTrain ws place m = answered (m .answer) (putEvent ws (m .bench .head) place
 
 -- a clock step that gives m
 abbrev pub benchTicked : List ℕ → Moved → Called
-benchTicked ws m = answered (m .answer) (putMotion ws (m .bench .head .motion)) ws
+benchTicked ws m = answered (m .answer) (putMotion ws (orderOf (m .answer)) (m .bench .head .motion)) ws
 
 -- a sensor's event of train n
 unfoldable pub benchSenses : List ℕ → Event → ℕ → Called

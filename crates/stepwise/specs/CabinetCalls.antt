@@ -8,13 +8,13 @@ use Rattle.settings.specs.declared.Settings.{Settings}
 use Rattle.settings.specs.Settings.{settingsRefusal}
 use Rattle.trains.specs.Table.{placeFor}
 use Rattle.cabinet.specs.declared.Stepped.{Stepped}
-use Rattle.cabinet.specs.Cabinet.{freshCabinet, approached, left, clocked}
+use Rattle.cabinet.specs.Cabinet.{orderOf, freshCabinet, approached, left, clocked}
 use Rattle.runs.specs.Letters.{letterOf}
 use Rattle.runs.specs.Claims as heard
 use Rattle.runs.specs.Claims.{Heard}
 use Rattle.runs.specs.Run.{orFull}
 use Rattle.stepwise.specs.Words.{cabinetLength, tableFrom, cabinetFrom, cabinetWords}
-use Rattle.stepwise.specs.Calls.{Called, answered, lent, trainNumber, startedBy, putControl, putStep, entryThere, kindNamed, ofKind, orNoStep}
+use Rattle.stepwise.specs.Calls.{Called, answered, lent, trainNumber, startedBy, putClock, putStep, entryThere, kindNamed, ofKind, orNoStep}
 
 -- a start: the settings' own refusal, or 14, or the words of a fresh cabinet
 unfoldable pub cabinetStarted : List ℕ → Settings → Called
@@ -28,7 +28,7 @@ cabinetTrain ws place m = answered (m .answer) (putStep ws (m .cabinet .control)
 
 -- a clock step that gives m
 abbrev pub cabinetTicked : List ℕ → Stepped → Called
-cabinetTicked ws m = answered (m .answer) (putControl ws (m .cabinet .control)) ws
+cabinetTicked ws m = answered (m .answer) (putClock ws (orderOf (m .answer)) (m .cabinet .control)) ws
 
 -- what the cabinet in the words makes of what it hears
 unfoldable pub cabinetHears : List ℕ → Heard → Called

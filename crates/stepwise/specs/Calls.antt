@@ -4,12 +4,14 @@
 use Prim.Native.Nat.{ℕ, _+_, _*_, _/_, _%_, _<_}
 use mathlib.Core.Path.{_≡_}
 use mathlib.Core.Bool.{cond, not}
-use mathlib.Core.List.{List}
+use mathlib.Core.List.{List, [], _∷_}
 use mathlib.Core.Option.{Option, none, some}
 use lib.Dec.{eqb}
 use lib.ListN.{length, getD}
 use Rattle.lines.specs.Bytes.{splice}
 use Rattle.settings.specs.declared.Kind.{Kind}
+use Rattle.settings.specs.declared.Settings.{Settings}
+use Rattle.settings.specs.declared.Ticks.{Ticks}
 use Rattle.settings.specs.Refusal.{refuse, unless}
 use Rattle.trains.specs.declared.Entry.{Entry}
 use Rattle.trains.specs.declared.First.{First}
@@ -18,8 +20,10 @@ use Rattle.trains.specs.Trains.{isTrain}
 use Rattle.trains.specs.Table.{awayEntry}
 use Rattle.cabinet.specs.declared.Answer.{Answer}
 use Rattle.cabinet.specs.declared.Answer.the-variants.{Taken, Refused}
+use Rattle.cabinet.specs.declared.Order.{Order}
+use Rattle.cabinet.specs.declared.Order.the-variants as order
 use Rattle.cabinet.specs.declared.Control.{Control}
-use Rattle.cabinet.specs.Cabinet.{numberOf}
+use Rattle.cabinet.specs.Cabinet.{numberOf, later, ticked}
 use Rattle.bench.specs.declared.Event.the-variants as events
 use Rattle.bench.specs.declared.Head.{Head}
 use Rattle.bench.specs.declared.Motion.{Motion}
@@ -76,17 +80,33 @@ trainNumber n = refuse (not (isTrain n)) 5 0
 abbrev pub startedBy : ℕ → List ℕ → List ℕ → Called
 startedBy k new ws = called k (unless k (λ j. ws) new)
 
+-- ---- a clock step of which nothing but the instant shows
+
+-- under any settings it is taken, and gives no command
+pub record QuietTick (ticks : Ticks) (soonest : First) (w : Control) : Type 0 where
+  pub goes-on : w .now < 9999999
+  pub gives : (s : Settings) → ticked s ticks soonest w ≡ record { answer = Taken order.Nothing; control = later w }
+
 -- ---- what a step that is taken writes
 
--- a clock step: instant and command
+-- a clock step: the instant, and the command where one is given
+abbrev pub clockWords : Order → Control → List ℕ
+clockWords order.Nothing w = w .now ∷ []
+clockWords (order.Lower n) w = controlWords w
+clockWords order.Raise w = controlWords w
+
+abbrev pub putClock : List ℕ → Order → Control → List ℕ
+putClock ws o w = splice ws controlAt (clockWords o w)
+
+-- a bench's, the arm too
+abbrev pub putMotion : List ℕ → Order → Motion → List ℕ
+putMotion ws o m = putClock (splice ws armAt (armWords (m .angle) (m .previous))) o (m .control)
+
+-- instant and command
 abbrev pub putControl : List ℕ → Control → List ℕ
 putControl ws w = splice ws controlAt (controlWords w)
 
--- a bench's, the arm too
-abbrev pub putMotion : List ℕ → Motion → List ℕ
-putMotion ws m = splice (putControl ws (m .control)) armAt (armWords (m .angle) (m .previous))
-
--- a train's step: instant and command, the soonest train, and the entry at the train's place
+-- a train's step: these, the soonest train, and the entry at the train's place
 abbrev pub putStep : List ℕ → Control → First → ℕ → Entry → List ℕ
 putStep ws w soonest place e = splice (splice (putControl ws w) soonestAt (firstWords soonest)) (placeAt place) (entryWords e)
 

@@ -2,20 +2,23 @@
 // train's step reads the table, and writes the words of one entry.
 ghost use Prim.Native.Nat.{_+_, _<_, _≤_};
 ghost use mathlib.Core.Path.{_≡_};
+ghost use mathlib.Core.Bool.{true};
 ghost use mathlib.Core.List.{[], _∷_, _++_};
 ghost use lib.ListN.{length};
 ghost use Rattle.lines.specs.Bytes.{splice};
 ghost use Rattle.settings.specs.Values.{thirteen, settingsOf};
 ghost use Rattle.arm.specs.Shown.{numberOf};
+ghost use Rattle.trains.specs.Trains.{isPresent};
+ghost use Rattle.trains.specs.Table.{isOf, isFree, indexOf, foundFor};
+ghost use Rattle.trains.specs.First.{restOf, askedOf};
 ghost use Rattle.cabinet.specs.declared.Answer.the-variants.{Taken};
 ghost use Rattle.cabinet.specs.declared.Order.{Order};
 ghost use Rattle.runs.specs.Letters.{letterOf};
 ghost use Rattle.runs.specs.Run.{orElse};
-ghost use Rattle.stepwise.specs.Words.{tableAt, placeAt, cabinetLength, benchLength, commandFrom, commandNumber, kindFrom, kindAs};
-ghost use Rattle.stepwise.specs.Words.{standingFrom, standingNumber, entryFrom, entryWords, tableFrom, entriesWords, firstIn};
-ghost use Rattle.stepwise.specs.Words.{firstWords, settingsFrom, ticksFrom, ticksWords, controlFrom, cabinetFrom, cabinetWords};
-ghost use Rattle.stepwise.specs.Words.{headFrom, benchWords};
-ghost use Rattle.stepwise.specs.Calls.{called, packedAnswer, trainNumber, putControl, putMotion, putStep, putEvent, kindNamed};
+ghost use Rattle.stepwise.specs.Words.{soonestAt, tableAt, placeAt, cabinetLength, benchLength, commandFrom, commandNumber, kindFrom, kindAs, standingFrom, standingNumber, entryFrom, entryIn, entryWords, tableFrom};
+ghost use Rattle.stepwise.specs.Words.{entriesWords, firstIn, firstWords, settingsFrom, ticksFrom, ticksWords, controlFrom, controlWords, cabinetFrom};
+ghost use Rattle.stepwise.specs.Words.{cabinetWords, headFrom, armWords, benchWords};
+ghost use Rattle.stepwise.specs.Calls.{called, packedAnswer, trainNumber, QuietTick, putClock, putControl, putMotion, putStep, putEvent, kindNamed};
 ghost use Rattle.stepwise.specs.CabinetCalls as cabinetCall;
 ghost use Rattle.stepwise.specs.CabinetCalls.{cabinetStarted, cabinetTrain, cabinetCalled};
 ghost use Rattle.stepwise.specs.BenchCalls as benchCall;
@@ -31,14 +34,18 @@ use bench::Motion;
 use cabinet::Answer;
 use cabinet::Cabinet;
 use cabinet::Control;
+use cabinet::Order;
 use cabinet::Stepped;
 use runs::Letter;
 use settings::Kind;
 use settings::Settings;
 use settings::Ticks;
 use settings::Times;
+use trains::Asked;
 use trains::Entry;
 use trains::First;
+use trains::Found;
+use trains::Question;
 use trains::Standing;
 use trains::Table;
 
@@ -231,6 +238,100 @@ fn table_from(words: &[u32]) -> Table
     Table { places: places }
 }
 
+// ---- the table, asked where it lies
+
+// Whether the entry of the four words from `i` on is present train n's.
+fn is_of(words: &[u32], i: usize, n: u32) -> bool
+    requires { ⌜ i + 4 ≤ length (now words) ⌝ }
+    ensures { λ r. ⌜ r ≡ isOf n (entryIn (now (words .entry)) i) ⌝ }
+{
+    (words[i + 2] != 0) & (words[i] % 65536 == n)
+}
+
+// Whether no train has it.
+fn is_free(words: &[u32], i: usize) -> bool
+    requires { ⌜ i + 4 ≤ length (now words) ⌝ }
+    ensures { λ r. ⌜ r ≡ isFree (entryIn (now (words .entry)) i) ⌝ }
+{
+    words[i + 2] == 0
+}
+
+// The place of present train n, 96 for none.
+fn own_place(words: &[u32], n: u32) -> usize
+    requires { ⌜ cabinetLength ≤ length (now words) ⌝ }
+    ensures { λ r. ⌜ r ≡ indexOf (isOf n) (tableFrom (now (words .entry)) .places) ⌝ }
+{
+    let mut place: usize = 0;
+    while place < 96 {
+        if is_of(words, TABLE + 4 * place, n) {
+            return place;
+        }
+        place = place + 1;
+    }
+    place
+}
+
+// The first place that no train has, 96 for none.
+fn free_place(words: &[u32]) -> usize
+    requires { ⌜ cabinetLength ≤ length (now words) ⌝ }
+    ensures { λ r. ⌜ r ≡ indexOf isFree (tableFrom (now (words .entry)) .places) ⌝ }
+{
+    let mut place: usize = 0;
+    while place < 96 {
+        if is_free(words, TABLE + 4 * place) {
+            return place;
+        }
+        place = place + 1;
+    }
+    place
+}
+
+// Train n in the table, as `trains::Table::find` gives it, and no other entry decoded.
+fn find_in(words: &[u32], n: u32) -> Found
+    requires { ⌜ cabinetLength ≤ length (now words) ⌝ }
+    ensures { λ r. ⌜ r ≡ foundFor (tableFrom (now (words .entry))) n ⌝ }
+{
+    let own = own_place(words, n);
+    if own < 96 {
+        let i = TABLE + 4 * own;
+        return Found {
+            place: own,
+            entry: entry_from(words[i], words[i + 1], words[i + 2], words[i + 3]),
+        };
+    }
+    Found {
+        place: free_place(words),
+        entry: trains::away(),
+    }
+}
+
+// Who is first without train n: the table is decoded only where that was train n.
+fn rest_in(words: &[u32], s: Settings, q: Question, was: First, n: u32) -> First
+    requires { ⌜ cabinetLength ≤ length (now words) ⌝ }
+    ensures { λ r. ⌜ r ≡ restOf s q was n (tableFrom (now (words .entry))) ⌝ }
+{
+    if trains::names(was, n) {
+        let table = table_from(words);
+        return table.first_but(s, q, n);
+    }
+    was
+}
+
+// What the table says of train n, as `trains::Table::ask` does.
+fn ask_in(words: &[u32], s: Settings, q: Question, was: First, n: u32) -> Asked
+    requires { ⌜ cabinetLength ≤ length (now words) ⌝ }
+    ensures { λ r. ⌜ (r ≡ askedOf (tableFrom (now (words .entry))) s q was n) × (isPresent (r .entry .standing) ≡ true → r .place < 96) ⌝ }
+{
+    let f = find_in(words, n);
+    let entry = f.entry;
+    let rest = rest_in(words, s, q, was, n);
+    Asked {
+        place: f.place,
+        entry: entry,
+        rest: rest,
+    }
+}
+
 // The cabinet that the words hold.
 fn cabinet_from(words: &[u32]) -> Cabinet
     requires { ⌜ cabinetLength ≤ length (now words) ⌝ }
@@ -289,14 +390,6 @@ fn put_control(words: &mut [u32], w: Control)
 {
     let command = w.command;
     put_two(words, CONTROL, w.now, command_number(command));
-}
-
-fn put_motion(words: &mut [u32], m: Motion)
-    requires { ⌜ benchLength ≤ length (now words) ⌝ }
-    ensures { λ _. ⌜ now (words .exit) ≡ putMotion (now (words .entry)) m ⌝ }
-{
-    put_control(words, m.control);
-    put_two(words, ARM, m.angle as u32, m.previous as u32);
 }
 
 fn put_first(words: &mut [u32], at: usize, f: First)
@@ -433,6 +526,36 @@ fn pack(a: Answer) -> u64
     number + 256 * letter + 65536 * train
 }
 
+// A clock step that is taken: the instant, and the command where one is given; what it answers.
+fn settle_clock(words: &mut [u32], o: Order, w: Control) -> u64
+    requires { ⌜ cabinetLength ≤ length (now words) ⌝ }
+    ensures { λ r. ⌜ called r (now (words .exit)) ≡ called (packedAnswer (Taken o)) (putClock (now (words .entry)) o w) ⌝ }
+{
+    match o {
+        Order::Nothing => {
+            words[CONTROL] = w.now;
+            0
+        }
+        Order::Lower(_) => {
+            put_control(words, w);
+            pack(Answer::Taken(o))
+        }
+        Order::Raise => {
+            put_control(words, w);
+            pack(Answer::Taken(o))
+        }
+    }
+}
+
+// A bench's: the arm too.
+fn settle_motion(words: &mut [u32], o: Order, m: Motion) -> u64
+    requires { ⌜ benchLength ≤ length (now words) ⌝ }
+    ensures { λ r. ⌜ called r (now (words .exit)) ≡ called (packedAnswer (Taken o)) (putMotion (now (words .entry)) o m) ⌝ }
+{
+    put_two(words, ARM, m.angle as u32, m.previous as u32);
+    settle_clock(words, o, m.control)
+}
+
 // Where the words are not as many as they should be: the number that is found without them, or 14.
 fn wrong_length(own: u8) -> u64
     ensures { λ r. ⌜ r ≡ orElse own 14 ⌝ }
@@ -541,6 +664,23 @@ pub fn cabinet_leave(words: &mut [u32], n: u32) -> u64
     settle(words, f.place, c.leave(n))
 }
 
+// Whether a tick surely gives no command: the command is up, the clock goes on, and nobody is due by the look's horizon.
+fn is_quiet(words: &[u32]) -> bool
+    requires { ⌜ cabinetLength ≤ length (now words) ⌝ }
+    ensures { λ r. ⌜ (r ≡ true → QuietTick (ticksFrom (now (words .entry))) (firstIn (now (words .entry)) soonestAt) (controlFrom (now (words .entry)))) ⌝ }
+{
+    if words[CONTROL + 1] != 0 {
+        return false;
+    }
+    let now = words[CONTROL];
+    if 9999999 <= now {
+        return false;
+    }
+    let ticks = ticks_from(words);
+    let horizon = (now as u64) + 1 + (ticks.fall as u64);
+    !trains::reached(first_from(words, SOONEST), horizon)
+}
+
 // The clock moves by one tick (`cabinet::tick`). Refusal 10; 14 last, where there are not 405 words.
 pub fn cabinet_clock(words: &mut [u32]) -> u64
     ensures { λ r. ⌜ called r (now (words .exit)) ≡ cabinetCalled (now (words .entry)) cabinetCall.ticking ⌝ }
@@ -548,16 +688,17 @@ pub fn cabinet_clock(words: &mut [u32]) -> u64
     if words.len() != CABINET {
         return wrong_length(0);
     }
+    if is_quiet(words) {
+        words[CONTROL] = words[CONTROL] + 1;
+        return 0;
+    }
     let s = settings_from(words);
     let ticks = ticks_from(words);
     let soonest = first_from(words, SOONEST);
     let w = cabinet::tick(s, ticks, soonest, control_from(words));
     let answer = w.answer;
     match answer {
-        Answer::Taken(_) => {
-            put_control(words, w.control);
-            pack(answer)
-        }
+        Answer::Taken(o) => settle_clock(words, o, w.control),
         Answer::Refused(_) => pack(answer),
     }
 }
@@ -586,8 +727,9 @@ fn bench_event(words: &mut [u32], e: Event, n: u32) -> u64
         return wrong_length(train_number(n));
     }
     let head = head_from(words);
-    let table = table_from(words);
-    let a = table.ask(head.settings, bench::question_for(e), head.first_for(e), n);
+    let q = bench::question_for(e);
+    let was = head.first_for(e);
+    let a = ask_in(words, head.settings, q, was, n);
     let h = head.sense(e, n, a);
     let answer = h.answer;
     match answer {
@@ -638,10 +780,7 @@ pub fn bench_clock(words: &mut [u32], reading: f32) -> u64
     let m = head.tick(read);
     let answer = m.answer;
     match answer {
-        Answer::Taken(_) => {
-            put_motion(words, m.motion);
-            pack(answer)
-        }
+        Answer::Taken(o) => settle_motion(words, o, m.motion),
         Answer::Refused(_) => pack(answer),
     }
 }

@@ -22,34 +22,30 @@ head-from-requires c κs = search needs
 tick-requires : tie.Need-tick-requires
 tick-requires c κs = search needs
 
+enum-known-answer : tie.Need-enum-known-answer
+enum-known-answer c = search needs
+
+settle-motion-requires : tie.Need-settle-motion-requires
+settle-motion-requires c κs = search needs
+
 enum-told : tie.Need-enum-told
 enum-told c = search needs
 
-put-motion-requires : tie.Need-put-motion-requires
-put-motion-requires c κs = search needs
-
 pack-requires : tie.Need-pack-requires
 pack-requires c κs = search needs
-
-enum-told-2 : tie.Need-enum-told-2
-enum-told-2 c = search needs
-
-pack-requires-2 : tie.Need-pack-requires-2
-pack-requires-2 c κs = search needs
 
 same-length : tie.Need-same-length
 same-length c = search needs
 
 returns-2 : tie.Need-returns-2
 returns-2 c =
-    let at-put-motion = c .before .before .before in
-    let at-enum-told = at-put-motion .before .before in
-    let at-tick = at-enum-told .before .before in
+    let at-settle = c .before .before in
+    let at-answer = at-settle .before .before .before in
+    let at-tick = at-answer .before .before in
     let at-head-from = at-tick .before in
     let at-if1 = at-head-from .before .before in
-    let at-to-64ths = at-if1 .before in
-    clock-taken _ (at-if1 .if1 .left) _ _ _ (at-head-from .head-from .ensures) (at-to-64ths .to-64ths .ensures)
-    _ (at-tick .tick .ensures) _ (c .pack .ensures) _ _ (at-enum-told .enum-told .given .1) (at-put-motion .put-motion .ensures)
+    clock-taken _ (at-if1 .if1 .left) _ _ _ (at-head-from .head-from .ensures) (at-if1 .before .to-64ths .ensures)
+    _ (at-tick .tick .ensures) _ _ (at-answer .answer .given .1) (at-settle .settle-motion .ensures)
 
 same-length-2 : tie.Need-same-length-2
 same-length-2 c = search needs
@@ -59,9 +55,8 @@ returns-3 c =
     let at-tick = c .before .before .before in
     let at-head-from = at-tick .before in
     let at-if1 = at-head-from .before .before in
-    let at-to-64ths = at-if1 .before in
-    clock-refused _ (at-if1 .if1 .left) _ _ _ (at-head-from .head-from .ensures) (at-to-64ths .to-64ths .ensures)
-    _ (at-tick .tick .ensures) _ (c .pack2 .ensures) _ (c .before .enum-told2 .given .1)
+    clock-refused _ (at-if1 .if1 .left) _ _ _ (at-head-from .head-from .ensures) (at-if1 .before .to-64ths .ensures)
+    _ (at-tick .tick .ensures) _ _ (c .before .enum-told .given .1) (c .pack .ensures)
 
 pub bench-clock-spec : {M : Type 1} → statement M
 bench-clock-spec =
@@ -73,11 +68,10 @@ bench-clock-spec =
     returns
     head-from-requires
     tick-requires
+    enum-known-answer
+    settle-motion-requires
     enum-told
-    put-motion-requires
     pack-requires
-    enum-told-2
-    pack-requires-2
     same-length
     returns-2
     same-length-2
