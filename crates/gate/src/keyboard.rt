@@ -174,6 +174,7 @@ fn take_bytes(desk: Desk, bytes: &[u8], line: &mut [u8], window: &mut [u8]) -> D
 // The end of the input: a line without its byte 10 is taken, then the record's last line goes out. The status.
 fn end_input(desk: Desk, line: &[u8], window: &mut [u8]) -> u8
     requires { ⌜ 240 ≤ length (now window) ⌝ }
+    ensures { λ r. ⌜ r ≤ 2 ⌝ }
 {
     let d = end_line(desk, line, 0 < desk.tally.held, window);
     let last = d.live;
@@ -188,8 +189,10 @@ fn end_input(desk: Desk, line: &[u8], window: &mut [u8]) -> u8
     if t.refused { 1 } else { 0 }
 }
 
-// Standard input, read as it comes. The status.
-pub fn bench_input() -> u8 {
+// Standard input, read as it comes. The status: which one is the operating system's and the input's to decide.
+pub fn bench_input() -> u8
+    ensures { λ r. ⌜ r ≤ 2 ⌝ }
+{
     let fresh = live::fresh();
     let mut desk = Desk {
         live: fresh,
