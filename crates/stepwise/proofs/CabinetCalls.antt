@@ -5,8 +5,9 @@ use mathlib.Core.Path.{_≡_, refl, sym, ap, ap₂, _∙_}
 use mathlib.Core.Bool.{Bool, false, cond}
 use mathlib.Core.List.{List}
 use mathlib.Core.Logic.{inl}
-use lib.Dec.{eqb}
+use lib.Dec.{eqb, leb}
 use lib.ListN.{length, getD, set}
+use lib.Seq.{getD-set-same}
 use borrow.Author.Tests.{eq-eqb, leb-false, lt-leb}
 use Rattle.lines.specs.Bytes.{splice}
 use Rattle.settings.specs.declared.Kind.{Kind}
@@ -14,11 +15,15 @@ use Rattle.settings.specs.declared.Settings.{Settings}
 use Rattle.settings.specs.declared.Ticks.{Ticks}
 use Rattle.settings.specs.Refusal.{unless}
 use Rattle.settings.specs.Values.{settingsOf}
+use Rattle.settings.proofs.Laws.{unless-refused}
+use Rattle.trains.specs.declared.Asked.{Asked}
+use Rattle.trains.specs.declared.Entry.{Entry}
 use Rattle.trains.specs.declared.First.{First}
 use Rattle.trains.specs.declared.Found.{Found}
 use Rattle.trains.specs.declared.Table.{Table}
-use Rattle.trains.specs.Table.{freshTable, standingOf, noPlace, placeFor, foundFor}
-use Rattle.trains.specs.First.{reachedBy}
+use Rattle.trains.specs.declared.Question.the-variants.{Due}
+use Rattle.trains.specs.Table.{awayEntry, comingEntry, freshTable, standingOf, noPlace, placeFor, foundFor, put}
+use Rattle.trains.specs.First.{ownOf, earlierOf, reachedBy, restOf, askedOf}
 use Rattle.trains.proofs.Laws.{place-room}
 use Rattle.arm.specs.declared.Command.the-variants.{Up, Down}
 use Rattle.cabinet.specs.declared.Order.{Order}
@@ -28,7 +33,7 @@ use Rattle.cabinet.specs.declared.Control.{Control}
 use Rattle.cabinet.specs.declared.Controlled.{Controlled}
 use Rattle.cabinet.specs.declared.Cabinet.{Cabinet}
 use Rattle.cabinet.specs.declared.Stepped.{Stepped}
-use Rattle.cabinet.specs.Cabinet.{numberOf, orderOf, freshCabinet, started, refused, approachRefusal, leaveRefusal, order, lookedAt, later, ticked, approached, left, clocked}
+use Rattle.cabinet.specs.Cabinet.{numberOf, orderOf, freshCabinet, started, refused, approachRefusal, leaveRefusal, order, lookedAt, looked, placed, later, ticked, approached, left, clocked}
 use Rattle.cabinet.proofs.Laws.{approach-says, leave-says}
 use Rattle.runs.specs.Claims as heard
 use Rattle.runs.specs.Letters.{letterOf}
@@ -36,10 +41,10 @@ use Rattle.runs.specs.Run.{orElse, orFull}
 use Rattle.stepwise.specs.declared.Named.{Named}
 use Rattle.stepwise.specs.declared.Named.the-variants.{As, Nothing}
 use Rattle.stepwise.specs.Words.{soonestAt, firstIn, tableFrom, settingsFrom, ticksFrom, controlFrom, cabinetFrom, cabinetWords}
-use Rattle.stepwise.specs.Calls.{Called, called, packedAnswer, answered, trainNumber, QuietTick, putClock, kindNamed}
-use Rattle.stepwise.specs.CabinetCalls.{cabinetStarted, cabinetTrain, cabinetHears, approaching, leaving, ticking, cabinetCalled}
+use Rattle.stepwise.specs.Calls.{Called, called, packedAnswer, answered, trainNumber, QuietTick, putClock, putStep, kindNamed}
+use Rattle.stepwise.specs.CabinetCalls.{cabinetStarted, cabinetTrain, cabinetLooks, cabinetApproaches, cabinetLeaves, cabinetHears, approaching, leaving, ticking, cabinetCalled}
 use Rattle.stepwise.proofs.Words.{entries-many, cabinet-length}
-use Rattle.stepwise.proofs.Calls.{lent-wrong, lent-there, answered-taken, answered-refused, order-taken, clock-quiet, named-kind, named-none, start-taken, start-refused}
+use Rattle.stepwise.proofs.Calls.{lent-wrong, lent-there, answered-refused, refused-packed, order-taken, clock-quiet, named-kind, named-none, start-taken, start-refused}
 
 -- ---- the start
 
@@ -61,27 +66,74 @@ module _ (ws vs : List ℕ) (s : Settings) (m : Stepped) (own k : ℕ) (es : s �
 
 -- ---- a train's step that is taken has a place
 
--- what is taken has the number 0
-taken-none : (k : ℕ) (c : Cabinet) (gives : Stepped) (o : Order) → unless k (refused c) gives .answer ≡ Taken o → k ≡ 0
-taken-none zero c gives o e = refl
-taken-none (suc k) c gives o e = absurd (let z : _≡_ {A = ℕ} 0 1 = cc in omega arith)
-
 pub approach-place : (t : Table) (n : ℕ) → approachRefusal n (standingOf t n) (noPlace t n) ≡ 0 → placeFor t n < 96
 approach-place t n ok = leb-false 96 (placeFor t n) (approach-says n (standingOf t n) (noPlace t n) ok .2)
 
 pub leave-place : (t : Table) (n : ℕ) → length (t .places) ≡ 96 → leaveRefusal n (standingOf t n) ≡ 0 → placeFor t n < 96
 leave-place t n many ok = place-room t n many (inl (leave-says n (standingOf t n) ok .1))
 
-module _ (ws : List ℕ) (c : Cabinet) (n : ℕ) (f : Found) (m : Stepped) (ec : c ≡ cabinetFrom ws) (ef : f ≡ foundFor (c .table) n) (o : Order) (t : m .answer ≡ Taken o) where
-  pub approach-there : (kind : Kind) → m ≡ approached c kind n → f .place < 96
-  unfolding approached
-  approach-there kind em = rw ef (approach-place (c .table) n (taken-none _ c _ o (ap (λ (x : Stepped). x .answer) (sym em) ∙ t)))
+-- ---- a train's step on the words
 
-  pub leave-there : m ≡ left c n → f .place < 96
-  unfolding left cabinetFrom
-  leave-there em =
-      let many : length (c .table .places) ≡ 96 = ap (λ (d : Cabinet). length (d .table .places)) ec ∙ entries-many ws 21 96 in
-      rw ef (leave-place (c .table) n many (taken-none _ c _ o (ap (λ (x : Stepped). x .answer) (sym em) ∙ t)))
+-- the look at their parts
+pub looks-step : (ws : List ℕ) (s : Settings) (ticks : Ticks) (w : Control) (f : First) (at : ℕ) (e : Entry) → s ≡ settingsFrom ws → ticks ≡ ticksFrom ws → w ≡ controlFrom ws →
+    (m : Controlled) → m ≡ lookedAt s ticks f w → (r : ℕ) (after : List ℕ) → after ≡ putStep ws (m .control) f at e → r ≡ packedAnswer (m .answer) → called r after ≡ cabinetLooks ws f at e
+looks-step ws s ticks w f at e es et ew m em r after ea er = rw (er, ea, em, es, et, ew)
+
+module _ (ws : List ℕ) (n : ℕ) where
+  abbrev place : ℕ
+  place = placeFor (tableFrom ws) n
+
+  -- one taken: the entry that is put is the one at the train's place
+  looks-put : (e : Entry) (f : First) → place < 96 → cabinetLooks ws f place e ≡ cabinetTrain ws place (looked (placed (cabinetFrom ws) n e f))
+  unfolding cabinetFrom looked lookedAt put
+  looks-put e f h = rw (getD-set-same (tableFrom ws .places) place e awayEntry (omega (arith, h, entries-many ws 21 96)))
+
+  -- one refused
+  step-refused : (k : ℕ) (gives : Stepped) → (k ≡ 0 → ⊥) → called k ws ≡ cabinetTrain ws place (unless k (refused (cabinetFrom ws)) gives)
+  step-refused k gives f = rw (unless-refused k f, refused-packed k)
+
+  -- an approach, by what the table says of the train
+  module _ (kind : Kind) (f : Found) (ef : f ≡ foundFor (tableFrom ws) n) (k : ℕ) (ek : k ≡ approachRefusal n (f .entry .standing) (leb 96 (f .place))) where
+    approach-number : k ≡ approachRefusal n (standingOf (tableFrom ws) n) (noPlace (tableFrom ws) n)
+    approach-number = ek ∙ ap (λ (g : Found). approachRefusal n (g .entry .standing) (leb 96 (g .place))) ef
+
+    pub approach-room : k ≡ 0 → f .place < 96
+    approach-room z = rw ef (approach-place (tableFrom ws) n (sym approach-number ∙ z))
+
+    pub approach-taken : (e : Entry) (s : Settings) (own was soonest : First) (x : Called) → k ≡ 0 → e ≡ comingEntry n kind (getD ws 15 0) → s ≡ settingsFrom ws → own ≡ ownOf s Due e →
+        was ≡ firstIn ws soonestAt → soonest ≡ earlierOf own was → x ≡ cabinetLooks ws soonest (f .place) e → x ≡ cabinetApproaches ws kind n
+    unfolding approached cabinetFrom
+    approach-taken e s own was soonest x z ee es eo ew ej ex =
+        let zero = sym approach-number ∙ z in
+        let coming = comingEntry n kind (getD ws 15 0) in
+        let first = earlierOf (ownOf (settingsFrom ws) Due coming) (firstIn ws soonestAt) in
+        let words : x ≡ cabinetLooks ws first place coming = ex ∙ rw (ej, eo, es, ee, ew, ef) in
+        words ∙ looks-put coming first (approach-place (tableFrom ws) n zero) ∙ rw zero
+
+    pub approach-refused : (k ≡ 0 → ⊥) → called k ws ≡ cabinetApproaches ws kind n
+    unfolding approached cabinetFrom
+    approach-refused z = rw (← approach-number) (step-refused k _ z)
+
+  -- a leave
+  module _ (s : Settings) (was : First) (a : Asked) (es : s ≡ settingsFrom ws) (ew : was ≡ firstIn ws soonestAt) (ea : a ≡ askedOf (tableFrom ws) s Due was n) (k : ℕ)
+      (ek : k ≡ leaveRefusal n (a .entry .standing)) where
+    leave-number : k ≡ leaveRefusal n (standingOf (tableFrom ws) n)
+    leave-number = ek ∙ ap (λ (b : Asked). leaveRefusal n (b .entry .standing)) ea
+
+    pub leave-room : k ≡ 0 → a .place < 96
+    leave-room z = rw ea (leave-place (tableFrom ws) n (entries-many ws 21 96) (sym leave-number ∙ z))
+
+    pub leave-taken : (e : Entry) (x : Called) → k ≡ 0 → e ≡ awayEntry → x ≡ cabinetLooks ws (a .rest) (a .place) e → x ≡ cabinetLeaves ws n
+    unfolding left cabinetFrom
+    leave-taken e x z ee ex =
+        let zero = sym leave-number ∙ z in
+        let rest = restOf (settingsFrom ws) Due (firstIn ws soonestAt) n (tableFrom ws) in
+        let words : x ≡ cabinetLooks ws rest place awayEntry = ex ∙ rw (ee, ea, es, ew) in
+        words ∙ looks-put awayEntry rest (leave-place (tableFrom ws) n (entries-many ws 21 96) zero) ∙ rw zero
+
+    pub leave-refused : (k ≡ 0 → ⊥) → called k ws ≡ cabinetLeaves ws n
+    unfolding left cabinetFrom
+    leave-refused z = rw (← leave-number) (step-refused k _ z)
 
 -- ---- an approach
 
@@ -99,13 +151,9 @@ module _ (ws : List ℕ) (letter n : ℕ) (named : Named) (en : named ≡ kindNa
     unfolding cabinetHears
     approach-wrong own r f eo e = approach-called (called r ws) (lent-wrong 405 ws (trainNumber n) _ r f (e ∙ ap (λ (k : ℕ). orElse k 14) eo))
 
-    pub approach-steps : (c : Cabinet) (f : Found) (m : Stepped) (x : Called) → length ws ≡ 405 → c ≡ cabinetFrom ws → f ≡ foundFor (c .table) n → m ≡ approached c kind n →
-        x ≡ cabinetTrain ws (f .place) m → x ≡ cabinetCalled ws (approaching letter n)
-    unfolding cabinetHears cabinetFrom
-    approach-steps c f m x l ec ef em e =
-        let place : f .place ≡ placeFor (tableFrom ws) n = ap (λ (g : Found). g .place) ef ∙ ap (λ (d : Cabinet). placeFor (d .table) n) ec in
-        let step : m ≡ approached (cabinetFrom ws) kind n = em ∙ ap (λ (d : Cabinet). approached d kind n) ec in
-        approach-called x (lent-there 405 ws (trainNumber n) _ x l (e ∙ ap₂ (λ (p : ℕ) (u : Stepped). cabinetTrain ws p u) place step))
+    pub approach-steps : (x : Called) → length ws ≡ 405 → x ≡ cabinetApproaches ws kind n → x ≡ cabinetCalled ws (approaching letter n)
+    unfolding cabinetHears
+    approach-steps x l e = approach-called x (lent-there 405 ws (trainNumber n) _ x l e)
 
 -- ---- a leave
 
@@ -113,13 +161,9 @@ pub leave-wrong : (ws : List ℕ) (n own r : ℕ) → (length ws ≡ 405 → ⊥
 unfolding cabinetCalled cabinetHears
 leave-wrong ws n own r f eo e = lent-wrong 405 ws (trainNumber n) _ r f (e ∙ ap (λ (k : ℕ). orElse k 14) eo)
 
-pub leave-steps : (ws : List ℕ) (n : ℕ) (c : Cabinet) (f : Found) (m : Stepped) (x : Called) → length ws ≡ 405 → c ≡ cabinetFrom ws → f ≡ foundFor (c .table) n → m ≡ left c n →
-    x ≡ cabinetTrain ws (f .place) m → x ≡ cabinetCalled ws (leaving n)
-unfolding cabinetCalled cabinetHears cabinetFrom
-leave-steps ws n c f m x l ec ef em e =
-    let place : f .place ≡ placeFor (tableFrom ws) n = ap (λ (g : Found). g .place) ef ∙ ap (λ (d : Cabinet). placeFor (d .table) n) ec in
-    let step : m ≡ left (cabinetFrom ws) n = em ∙ ap (λ (d : Cabinet). left d n) ec in
-    lent-there 405 ws (trainNumber n) _ x l (e ∙ ap₂ (λ (p : ℕ) (u : Stepped). cabinetTrain ws p u) place step)
+pub leave-steps : (ws : List ℕ) (n : ℕ) (x : Called) → length ws ≡ 405 → x ≡ cabinetLeaves ws n → x ≡ cabinetCalled ws (leaving n)
+unfolding cabinetCalled cabinetHears
+leave-steps ws n x l e = lent-there 405 ws (trainNumber n) _ x l e
 
 -- ---- a clock step, on the words beside the table
 

@@ -48,6 +48,10 @@ module _ (a : Answer) (new ws : List ℕ) (r : ℕ) (packed : r ≡ packedAnswer
   pub answered-refused : (k : ℕ) → a ≡ Refused k → called r ws ≡ answered a new ws
   answered-refused k t = rw (packed, t)
 
+-- a number packed alone
+pub refused-packed : (k : ℕ) → packedAnswer (Refused k) ≡ k
+refused-packed k = omega arith
+
 -- one taken, whose words are by the order that is given
 pub order-taken : (a : Answer) (new : Order → List ℕ) (ws : List ℕ) (o : Order) → a ≡ Taken o → called (packedAnswer (Taken o)) (new o) ≡ answered a (new (orderOf a)) ws
 order-taken a new ws o t = rw t

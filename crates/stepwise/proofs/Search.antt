@@ -9,8 +9,11 @@ use lib.ListN.{length, getD, List·getD-eq-default}
 use Rattle.trains.specs.declared.Standing.the-variants.{Away, Coming, Inside}
 use Rattle.trains.specs.declared.Entry.{Entry}
 use Rattle.trains.specs.declared.Found.{Found}
+use Rattle.trains.specs.declared.First.{First}
+use Rattle.trains.specs.declared.First.the-variants.{Nobody}
 use Rattle.trains.specs.Trains.{isPresent}
 use Rattle.trains.specs.Table.{awayEntry, isOf, isFree, indexOf, entryOf, placeFor, foundFor}
+use Rattle.trains.specs.First.{earlierOf, firstOf}
 use Rattle.trains.proofs.Lists.{index-passes}
 use Rattle.trains.proofs.Laws.{index-place}
 use Rattle.stepwise.specs.Words.{standingFrom, entryIn, entriesFrom, tableFrom}
@@ -79,6 +82,25 @@ entry-there : (ws : List ℕ) (many i k : ℕ) → k < many → getD (entriesFro
 unfolding entriesFrom
 entry-there ws (suc many) i zero h = ap (entryIn ws) (omega arith)
 entry-there ws (suc many) i (suc k) h = entry-there ws many (i + 4) k (omega arith) ∙ ap (entryIn ws) (omega arith)
+
+-- ---- who is first, from the last entry to the first
+
+module _ (own : Entry → First) (ws : List ℕ) where
+  -- of the entries from a place on
+  abbrev pub firstFrom : ℕ → First
+  firstFrom place = firstOf own (entriesFrom ws (21 + 4 * place) (96 - place))
+
+  pub first-end : firstFrom 96 ≡ Nobody
+  unfolding entriesFrom
+  first-end = refl
+
+  pub first-next : (place : ℕ) → 0 < place → place ≤ 96 → (best : First) → best ≡ firstFrom place → (e : Entry) → e ≡ entryIn ws (21 + 4 * (place - 1)) → (next : First) → next ≡ earlierOf (own e) best →
+      next ≡ firstFrom (place - 1)
+  unfolding entriesFrom
+  first-next place some most best known e is next later =
+      let m : 96 - (place - 1) ≡ suc (96 - place) = omega arith in
+      let k : 21 + 4 * (place - 1) + 4 ≡ 21 + 4 * place = omega arith in
+      rw (later, is, known, m, k)
 
 -- ---- the train found
 

@@ -37,36 +37,6 @@ settings-spliced d p q r s a b c e f g h i j k l m n x y long ep eq er es =
     let four = es ∙ splice-then d 0 (a ∷ b ∷ c ∷ e ∷ f ∷ g ∷ h ∷ i ∷ j ∷ k ∷ l ∷ m ∷ []) 12 three refl (n ∷ x ∷ []) (omega arith) in
     store-then d 0 (a ∷ b ∷ c ∷ e ∷ f ∷ g ∷ h ∷ i ∷ j ∷ k ∷ l ∷ m ∷ n ∷ x ∷ []) 14 four refl y (omega arith)
 
--- ---- the table, read entry by entry
-
-module _ (ws : List ℕ) where
-  -- the first k are read, the others are to come
-  pub record Reading (places : List Entry) (k : ℕ) : Type 0 where
-    pub high : k ≤ 96
-    pub long : length places ≡ 96
-    pub read : take k places ++ entriesFrom ws (21 + 4 * k) (96 - k) ≡ entriesFrom ws 21 96
-
-  pub reading-start : (places : List Entry) → length places ≡ 96 → Reading places 0
-  reading-start places h = record { high = omega arith; long = h; read = refl }
-
-  pub reading-next : (places : List Entry) (k : ℕ) (e : Entry) → Reading places k → k < 96 → e ≡ entryIn ws (21 + 4 * k) → Reading (set places k e) (k + 1)
-  unfolding entriesFrom
-  reading-next places k e r h p =
-      let m : 96 - k ≡ suc (96 - (k + 1)) = omega arith in
-      let i : 21 + 4 * (k + 1) ≡ 21 + 4 * k + 4 = omega arith in
-      record {
-        high = omega arith;
-        long = length-set places k e ∙ r .long;
-        read = rw (i, add-one k, take-suc-set places k e (omega (arith, r .long)), append-snoc, p) (rw (m, add-one k) at (r .read));
-      }
-
-  pub reading-end : (places : List Entry) (k : ℕ) → Reading places k → 96 ≤ k → places ≡ entriesFrom ws 21 96
-  unfolding entriesFrom
-  reading-end places k r h =
-      let e : k ≡ length places = omega (arith, r .long, r .high) in
-      let z : 96 - k ≡ 0 = omega arith in
-      sym (take-length places) ∙ sym (append-nil _) ∙ rw (← e) (rw z at (r .read))
-
 -- any words are read as a table of 96 entries
 pub entries-many : (ws : List ℕ) (i many : ℕ) → length (entriesFrom ws i many) ≡ many
 unfolding entriesFrom

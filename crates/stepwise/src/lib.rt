@@ -10,17 +10,17 @@ ghost use Rattle.settings.specs.Values.{thirteen, settingsOf};
 ghost use Rattle.arm.specs.Shown.{numberOf};
 ghost use Rattle.trains.specs.Trains.{isPresent};
 ghost use Rattle.trains.specs.Table.{isOf, isFree, indexOf, foundFor};
-ghost use Rattle.trains.specs.First.{restOf, askedOf};
+ghost use Rattle.trains.specs.First.{firstBut, restOf, askedOf};
 ghost use Rattle.cabinet.specs.declared.Answer.the-variants.{Taken};
 ghost use Rattle.cabinet.specs.declared.Order.{Order};
 ghost use Rattle.runs.specs.Letters.{letterOf};
 ghost use Rattle.runs.specs.Run.{orElse};
 ghost use Rattle.stepwise.specs.Words.{soonestAt, tableAt, placeAt, cabinetLength, benchLength, commandFrom, commandNumber, kindFrom, kindAs, standingFrom, standingNumber, entryFrom, entryIn, entryWords, tableFrom};
-ghost use Rattle.stepwise.specs.Words.{entriesWords, firstIn, firstWords, settingsFrom, ticksFrom, ticksWords, controlFrom, controlWords, cabinetFrom};
+ghost use Rattle.stepwise.specs.Words.{entriesWords, firstIn, firstWords, settingsFrom, ticksFrom, ticksWords, controlFrom, controlWords};
 ghost use Rattle.stepwise.specs.Words.{cabinetWords, headFrom, armWords, benchWords};
 ghost use Rattle.stepwise.specs.Calls.{called, packedAnswer, trainNumber, QuietTick, putClock, putControl, putMotion, putStep, putEvent, kindNamed};
 ghost use Rattle.stepwise.specs.CabinetCalls as cabinetCall;
-ghost use Rattle.stepwise.specs.CabinetCalls.{cabinetStarted, cabinetTrain, cabinetCalled};
+ghost use Rattle.stepwise.specs.CabinetCalls.{cabinetStarted, cabinetLooks, cabinetApproaches, cabinetLeaves, cabinetCalled};
 ghost use Rattle.stepwise.specs.BenchCalls as benchCall;
 ghost use Rattle.stepwise.specs.BenchCalls.{benchStarted, benchSenses, benchCalled};
 ghost use Rattle.stepwise.specs.Shown.{gateNumber, showed, poseShown, gateShown};
@@ -35,7 +35,6 @@ use cabinet::Answer;
 use cabinet::Cabinet;
 use cabinet::Control;
 use cabinet::Order;
-use cabinet::Stepped;
 use runs::Letter;
 use settings::Kind;
 use settings::Settings;
@@ -223,22 +222,16 @@ fn control_from(words: &[u32]) -> Control
     }
 }
 
-fn table_from(words: &[u32]) -> Table
-    requires { ⌜ cabinetLength ≤ length (now words) ⌝ }
-    ensures { λ r. ⌜ r ≡ tableFrom (now (words .entry)) ⌝ }
-{
-    let away = trains::away();
-    let mut places = [away; 96];
-    let mut place: usize = 0;
-    while place < 96 {
-        let i = TABLE + 4 * place;
-        places[place] = entry_from(words[i], words[i + 1], words[i + 2], words[i + 3]);
-        place = place + 1;
-    }
-    Table { places: places }
-}
-
 // ---- the table, asked where it lies
+
+// The entry at a place.
+fn entry_at(words: &[u32], place: usize) -> Entry
+    requires { ⌜ (cabinetLength ≤ length (now words)) × (place < 96) ⌝ }
+    ensures { λ r. ⌜ r ≡ entryIn (now (words .entry)) (placeAt place) ⌝ }
+{
+    let i = TABLE + 4 * place;
+    entry_from(words[i], words[i + 1], words[i + 2], words[i + 3])
+}
 
 // Whether the entry of the four words from `i` on is present train n's.
 fn is_of(words: &[u32], i: usize, n: u32) -> bool
@@ -293,10 +286,9 @@ fn find_in(words: &[u32], n: u32) -> Found
 {
     let own = own_place(words, n);
     if own < 96 {
-        let i = TABLE + 4 * own;
         return Found {
             place: own,
-            entry: entry_from(words[i], words[i + 1], words[i + 2], words[i + 3]),
+            entry: entry_at(words, own),
         };
     }
     Found {
@@ -305,14 +297,27 @@ fn find_in(words: &[u32], n: u32) -> Found
     }
 }
 
-// Who is first without train n: the table is decoded only where that was train n.
+// Who is first of all trains but n, as `trains::Table::first_but` gives it, from the last place to the first.
+fn first_but_in(words: &[u32], s: Settings, q: Question, n: u32) -> First
+    requires { ⌜ cabinetLength ≤ length (now words) ⌝ }
+    ensures { λ r. ⌜ r ≡ firstBut s q n (tableFrom (now (words .entry))) ⌝ }
+{
+    let mut best = First::Nobody;
+    let mut place: usize = 96;
+    while 0 < place {
+        place = place - 1;
+        best = trains::with_other(s, q, n, entry_at(words, place), best);
+    }
+    best
+}
+
+// Who is first without train n: the table is read through only where that was train n.
 fn rest_in(words: &[u32], s: Settings, q: Question, was: First, n: u32) -> First
     requires { ⌜ cabinetLength ≤ length (now words) ⌝ }
     ensures { λ r. ⌜ r ≡ restOf s q was n (tableFrom (now (words .entry))) ⌝ }
 {
     if trains::names(was, n) {
-        let table = table_from(words);
-        return table.first_but(s, q, n);
+        return first_but_in(words, s, q, n);
     }
     was
 }
@@ -329,20 +334,6 @@ fn ask_in(words: &[u32], s: Settings, q: Question, was: First, n: u32) -> Asked
         place: f.place,
         entry: entry,
         rest: rest,
-    }
-}
-
-// The cabinet that the words hold.
-fn cabinet_from(words: &[u32]) -> Cabinet
-    requires { ⌜ cabinetLength ≤ length (now words) ⌝ }
-    ensures { λ r. ⌜ r ≡ cabinetFrom (now (words .entry)) ⌝ }
-{
-    Cabinet {
-        settings: settings_from(words),
-        ticks: ticks_from(words),
-        control: control_from(words),
-        soonest: first_from(words, SOONEST),
-        table: table_from(words),
     }
 }
 
@@ -614,23 +605,53 @@ pub fn cabinet_start(words: &mut [u32], values: &[u32]) -> u64
     k as u64
 }
 
-// What a train's step answers, and where it is taken its words.
-fn settle(words: &mut [u32], place: usize, m: Stepped) -> u64
-    requires { ⌜ (cabinetLength ≤ length (now words)) × ((o : Order) → m .answer ≡ Taken o → place < 96) ⌝ }
-    ensures { λ r. ⌜ called r (now (words .exit)) ≡ cabinetTrain (now (words .entry)) place m ⌝ }
+// A train's step that is taken: the look with the train that is then soonest, and what the step changes.
+fn hear(words: &mut [u32], soonest: First, place: usize, e: Entry) -> u64
+    requires { ⌜ (cabinetLength ≤ length (now words)) × (place < 96) ⌝ }
+    ensures { λ r. ⌜ called r (now (words .exit)) ≡ cabinetLooks (now (words .entry)) soonest place e ⌝ }
 {
-    let answer = m.answer;
-    match answer {
-        Answer::Taken(_) => {
-            let c = m.cabinet;
-            let soonest = c.soonest;
-            let table = c.table;
-            let e = table.places[place];
-            put_step(words, c.control, soonest, place, e);
-            pack(answer)
-        }
-        Answer::Refused(_) => pack(answer),
+    let s = settings_from(words);
+    let ticks = ticks_from(words);
+    let w = cabinet::look(s, ticks, soonest, control_from(words));
+    let answer = w.answer;
+    put_step(words, w.control, soonest, place, e);
+    pack(answer)
+}
+
+// An approach, as `cabinet::Cabinet::approach` takes it.
+fn hear_approach(words: &mut [u32], kind: Kind, n: u32) -> u64
+    requires { ⌜ cabinetLength ≤ length (now words) ⌝ }
+    ensures { λ r. ⌜ called r (now (words .exit)) ≡ cabinetApproaches (now (words .entry)) kind n ⌝ }
+{
+    let f = find_in(words, n);
+    let found = f.entry;
+    let standing = found.standing;
+    let k = cabinet::approach_refusal(n, standing, 96 <= f.place);
+    if k == 0 {
+        let e = trains::coming(n as u16, kind, words[CONTROL]);
+        let own = trains::own(settings_from(words), Question::Due, e);
+        let soonest = trains::earlier(own, first_from(words, SOONEST));
+        return hear(words, soonest, f.place, e);
     }
+    k as u64
+}
+
+// A leave, as `cabinet::Cabinet::leave` takes it.
+fn hear_leave(words: &mut [u32], n: u32) -> u64
+    requires { ⌜ cabinetLength ≤ length (now words) ⌝ }
+    ensures { λ r. ⌜ called r (now (words .exit)) ≡ cabinetLeaves (now (words .entry)) n ⌝ }
+{
+    let s = settings_from(words);
+    let was = first_from(words, SOONEST);
+    let a = ask_in(words, s, Question::Due, was, n);
+    let found = a.entry;
+    let standing = found.standing;
+    let k = cabinet::leave_refusal(n, standing);
+    if k == 0 {
+        let rest = a.rest;
+        return hear(words, rest, a.place, trains::away());
+    }
+    k as u64
 }
 
 // A train approaches, by the record's letter of its kind (`cabinet::Cabinet::approach`). 15 first, another letter; refusals 5, 6 and 17;
@@ -644,9 +665,7 @@ pub fn cabinet_approach(words: &mut [u32], letter: u8, n: u32) -> u64
             if words.len() != CABINET {
                 return wrong_length(train_number(n));
             }
-            let c = cabinet_from(words);
-            let f = c.table.find(n);
-            settle(words, f.place, c.approach(kind, n))
+            hear_approach(words, kind, n)
         }
         Named::Nothing => 15,
     }
@@ -659,9 +678,7 @@ pub fn cabinet_leave(words: &mut [u32], n: u32) -> u64
     if words.len() != CABINET {
         return wrong_length(train_number(n));
     }
-    let c = cabinet_from(words);
-    let f = c.table.find(n);
-    settle(words, f.place, c.leave(n))
+    hear_leave(words, n)
 }
 
 // Whether a tick surely gives no command: the command is up, the clock goes on, and nobody is due by the look's horizon.

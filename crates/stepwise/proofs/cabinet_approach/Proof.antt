@@ -1,7 +1,6 @@
--- `stepwise::cabinet_approach` meets its contract: the kind that the letter names, and the cabinet's own step. Assumes nothing.
-use native.Mathlib.Omega.{arith}
+-- `stepwise::cabinet_approach` meets its contract: the kind that the letter names, and the approach. Assumes nothing.
+use Rattle.stepwise.proofs.CabinetCalls.{approach-wrong, approach-steps, approach-none}
 use borrow.Author.Needs.{needs}
-use Rattle.stepwise.proofs.CabinetCalls.{approach-there, approach-wrong, approach-steps, approach-none}
 use Rattle.stepwise.proofs.cabinet_approach.Statement.{statement}
 use Rattle.stepwise.proofs.cabinet_approach.Tie as tie
 
@@ -24,20 +23,8 @@ returns c =
     let at-kind-named = at-named .before .before in
     approach-wrong _ _ _ _ (at-kind-named .kind-named .ensures) _ (at-named .named .given .1) _ _ (at-if1 .if1 .taken) (c .before .train-number .ensures) (c .wrong-length .ensures)
 
-cabinet-from-requires : tie.Need-cabinet-from-requires
-cabinet-from-requires c κs = search needs
-
-find-requires : tie.Need-find-requires
-find-requires c κs = search needs
-
-approach-requires : tie.Need-approach-requires
-approach-requires c κs = search needs
-
-settle-requires : tie.Need-settle-requires
-settle-requires c κs = (
-  omega (arith, c .before .before .before .before .before .if1 .left),
-  λ o t. approach-there _ _ _ _ _ (c .before .before .before .cabinet-from .ensures) (c .before .before .find .ensures) o t _ (c .approach .ensures),
-)
+hear-approach-requires : tie.Need-hear-approach-requires
+hear-approach-requires c κs = search needs
 
 enum-told : tie.Need-enum-told
 enum-told c = search needs
@@ -47,15 +34,11 @@ same-length c = search needs
 
 returns-2 : tie.Need-returns-2
 returns-2 c =
-    let at-settle = c .before .before in
-    let at-approach = at-settle .before in
-    let at-find = at-approach .before .before in
-    let at-cabinet-from = at-find .before in
-    let at-if1 = at-cabinet-from .before .before in
+    let at-hear = c .before .before in
+    let at-if1 = at-hear .before .before in
     let at-named = at-if1 .before .before in
     let at-kind-named = at-named .before .before in
-    approach-steps _ _ _ _ (at-kind-named .kind-named .ensures) _ (at-named .named .given .1) _ _ _ _ (at-if1 .if1 .left) (at-cabinet-from .cabinet-from .ensures) (at-find .find .ensures) (at-approach .approach .ensures)
-    (at-settle .settle .ensures)
+    approach-steps _ _ _ _ (at-kind-named .kind-named .ensures) _ (at-named .named .given .1) _ (at-if1 .if1 .left) (at-hear .hear-approach .ensures)
 
 returns-3 : tie.Need-returns-3
 returns-3 c = approach-none _ _ _ _ (c .before .before .kind-named .ensures) (c .enum-told .given .1)
@@ -69,10 +52,7 @@ cabinet-approach-spec =
     train-number-requires
     wrong-length-requires
     returns
-    cabinet-from-requires
-    find-requires
-    approach-requires
-    settle-requires
+    hear-approach-requires
     enum-told
     same-length
     returns-2

@@ -7,20 +7,16 @@ use Rattle.stepwise.proofs.rest_in.Tie as tie
 names-requires : tie.Need-names-requires
 names-requires c κs = search needs
 
-table-from-requires : tie.Need-table-from-requires
-table-from-requires c κs = search needs
-
-first-but-requires : tie.Need-first-but-requires
-first-but-requires c κs = search needs
+first-but-in-requires : tie.Need-first-but-in-requires
+first-but-in-requires c κs = search needs
 
 returns : tie.Need-returns
 unfolding restOf
-returns c = rw (← (c .before .before .before .names .ensures), c .before .before .if1 .taken, ← (c .before .table-from .ensures)) (c .first-but .ensures)
+returns c = rw (← (c .before .before .names .ensures), c .before .if1 .taken) (c .first-but-in .ensures)
 
 returns-2 : tie.Need-returns-2
 unfolding restOf
 returns-2 c = rw (← (c .before .names .ensures), c .if1 .left)
 
 pub rest-in-spec : {M : Type 1} → statement M
-rest-in-spec =
-    tie.close (tie.spec names-requires table-from-requires first-but-requires returns returns-2)
+rest-in-spec = tie.close (tie.spec names-requires first-but-in-requires returns returns-2)
