@@ -1,25 +1,34 @@
 -- The calls on a bench, from what its own steps give. Assumes nothing.
-use Prim.Native.Nat.{ℕ, _<_}
+use Prim.Native.Nat.{ℕ, _+_, _%_, _≤_, _<_}
 use native.Mathlib.Omega.{arith}
 use mathlib.Core.Path.{_≡_, refl, sym, ap, ap₂, _∙_}
-use mathlib.Core.List.{List}
+use mathlib.Core.Bool.{Bool, true, false}
+use mathlib.Core.List.{List, [], _∷_}
 use lib.Dec.{eqb}
 use lib.Ieee.{Float}
-use lib.ListN.{length}
+use lib.ListN.{length, getD, set}
 use lib.Seq.{getD-set-same}
+use borrow.Author.Tests.{le-leb, lt-leb}
 use Rattle.lines.specs.Bytes.{splice}
+use Rattle.lines.proofs.Splices.{length-splice}
 use Rattle.settings.specs.declared.Kind.{Kind}
 use Rattle.settings.specs.declared.Settings.{Settings}
 use Rattle.settings.specs.Values.{settingsOf}
+use Rattle.arm.specs.declared.Command.the-variants.{Up}
 use Rattle.arm.specs.declared.Reading.{Reading}
+use Rattle.arm.specs.declared.Reading.the-variants.{Angle}
+use Rattle.arm.specs.Movement.{mayMove}
 use Rattle.arm.specs.Shown as arm
 use Rattle.arm.specs.Shown.{readingOf}
 use Rattle.trains.specs.declared.Asked.{Asked}
+use Rattle.trains.specs.declared.First.{First}
 use Rattle.trains.specs.declared.Table.{Table}
 use Rattle.trains.specs.Table.{awayEntry, freshTable, placeFor}
+use Rattle.trains.specs.First.{reachedBy}
 use Rattle.cabinet.specs.declared.Order.{Order}
+use Rattle.cabinet.specs.declared.Order.the-variants as order
 use Rattle.cabinet.specs.declared.Answer.the-variants.{Taken, Refused}
-use Rattle.cabinet.specs.Cabinet.{numberOf, orderOf}
+use Rattle.cabinet.specs.Cabinet.{numberOf, orderOf, later}
 use Rattle.bench.specs.declared.Event.{Event}
 use Rattle.bench.specs.declared.Event.the-variants as events
 use Rattle.bench.specs.declared.Head.{Head}
@@ -28,18 +37,18 @@ use Rattle.bench.specs.declared.Sensed.{Sensed}
 use Rattle.bench.specs.declared.Ticked.{Ticked}
 use Rattle.bench.specs.declared.Moved.{Moved}
 use Rattle.bench.specs.Bench as bench
-use Rattle.bench.specs.Bench.{freshBench, headTicked, headSensed, askedFor, sensed, clockRead}
+use Rattle.bench.specs.Bench.{freshBench, clockRefusal, headTicked, headSensed, askedFor, sensed, clockRead}
 use Rattle.runs.specs.declared.Step.the-variants as step
 use Rattle.runs.specs.Letters.{letterOf}
 use Rattle.runs.specs.Run.{orElse, orFull}
 use Rattle.runs.proofs.Turns.{sensed-answer, sensed-taken}
 use Rattle.stepwise.specs.declared.Named.{Named}
 use Rattle.stepwise.specs.declared.Named.the-variants.{As, Nothing}
-use Rattle.stepwise.specs.Words.{tableFrom, headFrom, benchFrom, benchWords}
-use Rattle.stepwise.specs.Calls.{Called, called, packedAnswer, answered, trainNumber, putMotion, putEvent, entryThere, kindNamed}
-use Rattle.stepwise.specs.BenchCalls.{benchStarted, benchTrain, benchSenses, benchTakes, approaching, ticking, benchCalled}
+use Rattle.stepwise.specs.Words.{soonestAt, latestAt, firstIn, settingsFrom, ticksFrom, controlFrom, tableFrom, headFrom, benchFrom, benchWords}
+use Rattle.stepwise.specs.Calls.{Called, called, packedAnswer, answered, trainNumber, QuietTick, StillTick, putMotion, putEvent, entryThere, kindNamed}
+use Rattle.stepwise.specs.BenchCalls.{benchStarted, benchTrain, benchSenses, benchReads, benchTakes, approaching, ticking, benchCalled}
 use Rattle.stepwise.proofs.Words.{entries-many, bench-length}
-use Rattle.stepwise.proofs.Calls.{lent-wrong, lent-there, answered-taken, answered-refused, order-taken, named-kind, named-none, start-taken, start-refused}
+use Rattle.stepwise.proofs.Calls.{lent-wrong, lent-there, answered-taken, answered-refused, order-taken, clock-quiet, named-kind, named-none, start-taken, start-refused}
 
 -- ---- the start
 
@@ -117,16 +126,50 @@ pub clock-wrong : (ws : List ℕ) (reading : Float) (read : Reading) (own r : �
 unfolding benchCalled benchTakes
 clock-wrong ws reading read own r n p q e = lent-wrong 411 ws (arm.numberOf (readingOf reading)) _ r n (e ∙ rw (q, p))
 
-module _ (ws : List ℕ) (l : length ws ≡ 411) (reading : Float) (h : Head) (read : Reading) (eh : h ≡ headFrom ws) (er : read ≡ readingOf reading)
-    (t : Ticked) (is : t ≡ headTicked h read) where
-  clock-called : (x : Called) → x ≡ answered (t .answer) (putMotion ws (orderOf (t .answer)) (t .motion)) ws → x ≡ benchCalled ws (ticking reading)
-  unfolding benchCalled benchTakes benchFrom clockRead
-  clock-called x e =
-      let words : t ≡ headTicked (headFrom ws) (readingOf reading) = is ∙ rw (eh, er) in
-      lent-there 411 ws (arm.numberOf (readingOf reading)) _ x l (e ∙ ap (λ (u : Ticked). answered (u .answer) (putMotion ws (orderOf (u .answer)) (u .motion)) ws) words)
+pub clock-reads : (ws : List ℕ) → length ws ≡ 411 → (reading : Float) (read : Reading) → read ≡ readingOf reading → (x : Called) → x ≡ benchReads ws read → x ≡ benchCalled ws (ticking reading)
+unfolding benchCalled benchTakes
+clock-reads ws l reading read er x e = lent-there 411 ws (arm.numberOf (readingOf reading)) _ x l (e ∙ ap (benchReads ws) er)
 
-  pub clock-taken : (o : Order) (x : Called) → t .answer ≡ Taken o → x ≡ called (packedAnswer (Taken o)) (putMotion ws o (t .motion)) → x ≡ benchCalled ws (ticking reading)
-  clock-taken o x a e = clock-called x (e ∙ order-taken (t .answer) (λ p. putMotion ws p (t .motion)) ws o a)
+module _ (ws : List ℕ) (h : Head) (read : Reading) (eh : h ≡ headFrom ws) (t : Ticked) (is : t ≡ headTicked h read) where
+  reads-called : (x : Called) → x ≡ answered (t .answer) (putMotion ws (orderOf (t .answer)) (t .motion)) ws → x ≡ benchReads ws read
+  unfolding benchFrom clockRead
+  reads-called x e = e ∙ ap (λ (u : Ticked). answered (u .answer) (putMotion ws (orderOf (u .answer)) (u .motion)) ws) (is ∙ ap (λ (g : Head). headTicked g read) eh)
 
-  pub clock-refused : (k r : ℕ) → t .answer ≡ Refused k → r ≡ packedAnswer (t .answer) → called r ws ≡ benchCalled ws (ticking reading)
-  clock-refused k r a packed = clock-called (called r ws) (answered-refused (t .answer) (putMotion ws (orderOf (t .answer)) (t .motion)) ws r packed k a)
+  pub reads-taken : (o : Order) (x : Called) → t .answer ≡ Taken o → x ≡ called (packedAnswer (Taken o)) (putMotion ws o (t .motion)) → x ≡ benchReads ws read
+  reads-taken o x a e = reads-called x (e ∙ order-taken (t .answer) (λ p. putMotion ws p (t .motion)) ws o a)
+
+  pub reads-refused : (k r : ℕ) → t .answer ≡ Refused k → r ≡ packedAnswer (t .answer) → called r ws ≡ benchReads ws read
+  reads-refused k r a packed = reads-called (called r ws) (answered-refused (t .answer) (putMotion ws (orderOf (t .answer)) (t .motion)) ws r packed k a)
+
+-- ---- one that surely gives no command
+
+still-tick : (h : Head) (angle : ℕ) → QuietTick (h .ticks) (h .soonest) (h .motion .control) → reachedBy (h .motion .control .now) (h .latest) ≡ false → angle ≤ 5760 →
+    mayMove (h .settings) Up (h .motion .angle) angle ≡ true → StillTick h angle
+unfolding headTicked clockRefusal
+still-tick h angle q late most may =
+    record {
+      goes-on = q .goes-on;
+      gives = rw (lt-leb 9999999 (h .motion .control .now) (q .goes-on), late, le-leb angle 5760 most, q .gives (h .settings), q .up, may);
+    }
+
+module _ (ws : List ℕ) (angle : ℕ) where
+  pub still-goes-on : StillTick (headFrom ws) angle → getD ws 15 0 < 9999999
+  unfolding headFrom
+  still-goes-on q = q .goes-on
+
+  -- by the words
+  pub still-words : (latest : First) (s : Settings) (may : Bool) → QuietTick (ticksFrom ws) (firstIn ws soonestAt) (controlFrom ws) → latest ≡ firstIn ws latestAt →
+      reachedBy (getD ws 15 0) latest ≡ false → s ≡ settingsFrom ws → may ≡ mayMove s Up (getD ws 405 0 % 65536) angle → angle ≤ 5760 → may ≡ true → StillTick (headFrom ws) angle
+  unfolding headFrom
+  still-words latest s may q el late es em most ok =
+      still-tick (headFrom ws) angle q (ap (reachedBy (getD ws 15 0)) (sym el) ∙ late) most
+      (ap (λ (g : Settings). mayMove g Up (getD ws 405 0 % 65536) angle) (sym es) ∙ sym em ∙ ok)
+
+  pub reads-still : (after : List ℕ) → 411 ≤ length ws → StillTick (headFrom ws) angle → after ≡ splice ws 405 (angle ∷ getD ws 405 0 % 65536 ∷ []) →
+      called 0 (set after 15 (getD ws 15 0 + 1)) ≡ benchReads ws (Angle angle)
+  unfolding headFrom
+  reads-still after l q e =
+      let arm = angle ∷ getD ws 405 0 % 65536 ∷ [] in
+      let long : length (splice ws 405 arm) ≡ length ws = length-splice ws 405 arm (omega arith) in
+      reads-taken ws (headFrom ws) (Angle angle) refl _ (sym (q .gives)) order.Nothing _ refl
+      (ap (λ (us : List ℕ). called 0 (set us 15 (getD ws 15 0 + 1))) e ∙ clock-quiet (splice ws 405 arm) order.Nothing (later (controlFrom ws)) (omega arith) refl)

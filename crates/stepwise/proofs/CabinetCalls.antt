@@ -188,7 +188,7 @@ module _ (ws : List ℕ) (l : length ws ≡ 405) (s : Settings) (ticks : Ticks) 
 -- a tick that surely gives no command: nobody is due by the horizon of the command up
 pub quiet-tick : (ticks : Ticks) (f : First) (w : Control) (t : ℕ) → w .command ≡ Up → w .now < 9999999 → t ≡ w .now + 1 + ticks .fall → reachedBy t f ≡ false → QuietTick ticks f w
 unfolding ticked lookedAt order
-quiet-tick ticks f w t up l is none = record { goes-on = l; gives = λ s. rw (lt-leb 9999999 (w .now) l, up, ← is, none) }
+quiet-tick ticks f w t up l is none = record { goes-on = l; up = up; gives = λ s. rw (lt-leb 9999999 (w .now) l, up, ← is, none) }
 
 -- by the words
 pub quiet-words : (ws : List ℕ) (ticks : Ticks) (f : First) (t : ℕ) → getD ws 16 0 ≡ 0 → getD ws 15 0 < 9999999 → ticks ≡ ticksFrom ws → f ≡ firstIn ws soonestAt →

@@ -7,6 +7,7 @@ use lib.Ieee.{Float}
 use lib.ListN.{length}
 use Rattle.settings.specs.declared.Settings.{Settings}
 use Rattle.settings.specs.Settings.{settingsRefusal}
+use Rattle.arm.specs.declared.Reading.{Reading}
 use Rattle.arm.specs.Shown as arm
 use Rattle.arm.specs.Shown.{readingOf}
 use Rattle.trains.specs.Table.{placeFor}
@@ -36,6 +37,10 @@ benchTrain ws place m = answered (m .answer) (putEvent ws (m .bench .head) place
 abbrev pub benchTicked : List ℕ → Moved → Called
 benchTicked ws m = answered (m .answer) (putMotion ws (orderOf (m .answer)) (m .bench .head .motion)) ws
 
+-- a clock step with a reading in 64ths
+abbrev pub benchReads : List ℕ → Reading → Called
+benchReads ws r = benchTicked ws (clockRead (benchFrom ws) r)
+
 -- a sensor's event of train n
 unfoldable pub benchSenses : List ℕ → Event → ℕ → Called
 benchSenses ws e n = lent benchLength ws (trainNumber n) (benchTrain ws (placeFor (tableFrom ws) n) (sensed (benchFrom ws) e n))
@@ -45,7 +50,7 @@ unfoldable pub benchTakes : List ℕ → Step → Called
 benchTakes ws (step.Approach k n) = benchSenses ws (events.Approach k) n
 benchTakes ws (step.Occupy n) = benchSenses ws events.Occupy n
 benchTakes ws (step.Leave n) = benchSenses ws events.Leave n
-benchTakes ws (step.Clock r) = lent benchLength ws (arm.numberOf (readingOf r)) (benchTicked ws (clockRead (benchFrom ws) (readingOf r)))
+benchTakes ws (step.Clock r) = lent benchLength ws (arm.numberOf (readingOf r)) (benchReads ws (readingOf r))
 
 -- ---- calls
 

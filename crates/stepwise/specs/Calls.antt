@@ -13,6 +13,8 @@ use Rattle.settings.specs.declared.Kind.{Kind}
 use Rattle.settings.specs.declared.Settings.{Settings}
 use Rattle.settings.specs.declared.Ticks.{Ticks}
 use Rattle.settings.specs.Refusal.{refuse, unless}
+use Rattle.arm.specs.declared.Command.the-variants.{Up}
+use Rattle.arm.specs.declared.Reading.the-variants.{Angle}
 use Rattle.trains.specs.declared.Entry.{Entry}
 use Rattle.trains.specs.declared.First.{First}
 use Rattle.trains.specs.declared.Table.{Table}
@@ -27,6 +29,7 @@ use Rattle.cabinet.specs.Cabinet.{numberOf, later, ticked}
 use Rattle.bench.specs.declared.Event.the-variants as events
 use Rattle.bench.specs.declared.Head.{Head}
 use Rattle.bench.specs.declared.Motion.{Motion}
+use Rattle.bench.specs.Bench.{headTicked}
 use Rattle.runs.specs.declared.Letter.{Letter}
 use Rattle.runs.specs.declared.Letter.the-variants as letter
 use Rattle.runs.specs.Run.{answerByte, answerTrain, orElse}
@@ -82,10 +85,17 @@ startedBy k new ws = called k (unless k (λ j. ws) new)
 
 -- ---- a clock step of which nothing but the instant shows
 
--- under any settings it is taken, and gives no command
+-- the command is up, and under any settings the step is taken and gives no command
 pub record QuietTick (ticks : Ticks) (soonest : First) (w : Control) : Type 0 where
   pub goes-on : w .now < 9999999
+  pub up : w .command ≡ Up
   pub gives : (s : Settings) → ticked s ticks soonest w ≡ record { answer = Taken order.Nothing; control = later w }
+
+-- so is a bench's, with an angle that is allowed
+pub record StillTick (h : Head) (angle : ℕ) : Type 0 where
+  pub goes-on : h .motion .control .now < 9999999
+  pub gives : headTicked h (Angle angle)
+      ≡ record { answer = Taken order.Nothing; motion = record { control = later (h .motion .control); angle = angle; previous = h .motion .angle } }
 
 -- ---- what a step that is taken writes
 

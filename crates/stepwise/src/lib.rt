@@ -7,6 +7,7 @@ ghost use mathlib.Core.List.{[], _∷_, _++_};
 ghost use lib.ListN.{length};
 ghost use Rattle.lines.specs.Bytes.{splice};
 ghost use Rattle.settings.specs.Values.{thirteen, settingsOf};
+ghost use Rattle.arm.specs.declared.Reading.the-variants.{Angle};
 ghost use Rattle.arm.specs.Shown.{numberOf};
 ghost use Rattle.trains.specs.Trains.{isPresent};
 ghost use Rattle.trains.specs.Table.{isOf, isFree, indexOf, foundFor};
@@ -18,11 +19,11 @@ ghost use Rattle.runs.specs.Run.{orElse};
 ghost use Rattle.stepwise.specs.Words.{soonestAt, tableAt, placeAt, cabinetLength, benchLength, commandFrom, commandNumber, kindFrom, kindAs, standingFrom, standingNumber, entryFrom, entryIn, entryWords, tableFrom};
 ghost use Rattle.stepwise.specs.Words.{entriesWords, firstIn, firstWords, settingsFrom, ticksFrom, ticksWords, controlFrom, controlWords};
 ghost use Rattle.stepwise.specs.Words.{cabinetWords, headFrom, armWords, benchWords};
-ghost use Rattle.stepwise.specs.Calls.{called, packedAnswer, trainNumber, QuietTick, putClock, putControl, putMotion, putStep, putEvent, kindNamed};
+ghost use Rattle.stepwise.specs.Calls.{called, packedAnswer, trainNumber, QuietTick, StillTick, putClock, putControl, putMotion, putStep, putEvent, kindNamed};
 ghost use Rattle.stepwise.specs.CabinetCalls as cabinetCall;
 ghost use Rattle.stepwise.specs.CabinetCalls.{cabinetStarted, cabinetLooks, cabinetApproaches, cabinetLeaves, cabinetCalled};
 ghost use Rattle.stepwise.specs.BenchCalls as benchCall;
-ghost use Rattle.stepwise.specs.BenchCalls.{benchStarted, benchSenses, benchCalled};
+ghost use Rattle.stepwise.specs.BenchCalls.{benchStarted, benchSenses, benchReads, benchCalled};
 ghost use Rattle.stepwise.specs.Shown.{gateNumber, showed, poseShown, gateShown};
 use arm::Command;
 use arm::Gate;
@@ -785,6 +786,51 @@ pub fn bench_leave(words: &mut [u32], n: u32) -> u64
     bench_event(words, Event::Leave, n)
 }
 
+// Whether a tick with this angle surely gives no command: it gives a cabinet none, nobody is at its latest instant, and the arm may go there.
+fn is_still(words: &[u32], angle: u16) -> bool
+    requires { ⌜ (benchLength ≤ length (now words)) × (angle ≤ 5760) ⌝ }
+    ensures { λ r. ⌜ (r ≡ true → StillTick (headFrom (now (words .entry))) angle) ⌝ }
+{
+    if is_quiet(words) {
+        let now = words[CONTROL];
+        if trains::reached(first_from(words, LATEST), now as u64) {
+            return false;
+        }
+        let was = (words[ARM] % 65536) as u16;
+        return arm::may_move(settings_from(words), Command::Up, was, angle);
+    }
+    false
+}
+
+// A clock step with a reading in 64ths, as `bench::Head::tick` takes it.
+fn tick_in(words: &mut [u32], read: Reading) -> u64
+    requires { ⌜ benchLength ≤ length (now words) ⌝ }
+    ensures { λ r. ⌜ called r (now (words .exit)) ≡ benchReads (now (words .entry)) read ⌝ }
+{
+    let head = head_from(words);
+    let m = head.tick(read);
+    let answer = m.answer;
+    match answer {
+        Answer::Taken(o) => settle_motion(words, o, m.motion),
+        Answer::Refused(_) => pack(answer),
+    }
+}
+
+// One with an allowed angle: where it surely gives no command, only the arm and the instant are written.
+fn tick_to(words: &mut [u32], angle: u16) -> u64
+    requires { ⌜ (benchLength ≤ length (now words)) × (angle ≤ 5760) ⌝ }
+    ensures { λ r. ⌜ called r (now (words .exit)) ≡ benchReads (now (words .entry)) (Angle angle) ⌝ }
+{
+    if is_still(words, angle) {
+        let now = words[CONTROL];
+        let was = words[ARM] % 65536;
+        put_two(words, ARM, angle as u32, was);
+        words[CONTROL] = now + 1;
+        return 0;
+    }
+    tick_in(words, Reading::Angle(angle))
+}
+
 // The clock moves by one tick and brings a reading in degrees. Refusals 10 to 13; 14 last, where there are not 411 words.
 pub fn bench_clock(words: &mut [u32], reading: f32) -> u64
     ensures { λ r. ⌜ called r (now (words .exit)) ≡ benchCalled (now (words .entry)) (benchCall.ticking reading) ⌝ }
@@ -793,12 +839,9 @@ pub fn bench_clock(words: &mut [u32], reading: f32) -> u64
     if words.len() != BENCH {
         return wrong_length(reading_number(read));
     }
-    let head = head_from(words);
-    let m = head.tick(read);
-    let answer = m.answer;
-    match answer {
-        Answer::Taken(o) => settle_motion(words, o, m.motion),
-        Answer::Refused(_) => pack(answer),
+    match read {
+        Reading::Angle(angle) => tick_to(words, angle),
+        Reading::Refused => tick_in(words, read),
     }
 }
 

@@ -1,7 +1,7 @@
 -- `stepwise::first_but_in` meets its contract: from each place on, who is first of the others is known. Assumes nothing.
 use Prim.Native.Nat.{_≤_}
 use native.Mathlib.Omega.{arith}
-use mathlib.Core.Path.{_≡_, sym, ap, _∙_}
+use mathlib.Core.Path.{_≡_, sym}
 use Rattle.trains.specs.First.{ownBut, firstBut}
 use Rattle.stepwise.proofs.Search.{firstFrom, first-end, first-next}
 use borrow.Author.Needs.{needs}

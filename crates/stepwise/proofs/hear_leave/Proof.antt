@@ -1,5 +1,4 @@
 -- `stepwise::hear_leave` meets its contract: the table asked, the entry put away, and the look. Assumes nothing.
-use mathlib.Core.Path.{_∙_}
 use Rattle.stepwise.proofs.CabinetCalls.{leave-room, leave-taken, leave-refused}
 use borrow.Author.Needs.{needs}
 use Rattle.stepwise.proofs.hear_leave.Statement.{statement}
