@@ -48,31 +48,31 @@ module _ (test : Entry → Bool) (ws : List ℕ) where
   from i = indexOf test (entriesFrom ws (21 + 4 * i) (96 - i))
 
   -- none before place i passes
-  pub record Sought (i : ℕ) : Type 0 where
+  pub record NoneBefore (i : ℕ) : Type 0 where
     pub most : i ≤ 96
     pub passed : indexOf test (tableFrom ws .places) ≡ i + from i
 
-  pub sought-start : Sought 0
-  sought-start = record { most = omega arith; passed = omega arith }
+  pub none-start : NoneBefore 0
+  none-start = record { most = omega arith; passed = omega arith }
 
-  pub sought-next : (i : ℕ) → i < 96 → test (entryIn ws (21 + 4 * i)) ≡ false → Sought i → Sought (i + 1)
+  pub none-next : (i : ℕ) → i < 96 → test (entryIn ws (21 + 4 * i)) ≡ false → NoneBefore i → NoneBefore (i + 1)
   unfolding entriesFrom
-  sought-next i h e w =
+  none-next i h e w =
       let m : 96 - i ≡ suc (96 - (i + 1)) = omega arith in
       let k : 21 + 4 * (i + 1) ≡ 21 + 4 * i + 4 = omega arith in
       let next : from i ≡ suc (from (i + 1)) = rw (m, e, k) in
       record { most = omega arith; passed = w .passed ∙ ap (λ (x : ℕ). i + x) next ∙ omega arith }
 
-  pub sought-found : (i : ℕ) → i < 96 → test (entryIn ws (21 + 4 * i)) ≡ true → Sought i → i ≡ indexOf test (tableFrom ws .places)
+  pub none-found : (i : ℕ) → i < 96 → test (entryIn ws (21 + 4 * i)) ≡ true → NoneBefore i → i ≡ indexOf test (tableFrom ws .places)
   unfolding entriesFrom
-  sought-found i h e w =
+  none-found i h e w =
       let m : 96 - i ≡ suc (96 - (i + 1)) = omega arith in
       let here : from i ≡ 0 = rw (m, e) in
       omega (arith, w .passed, here)
 
-  pub sought-end : (i : ℕ) → 96 ≤ i → Sought i → i ≡ indexOf test (tableFrom ws .places)
+  pub none-end : (i : ℕ) → 96 ≤ i → NoneBefore i → i ≡ indexOf test (tableFrom ws .places)
   unfolding entriesFrom
-  sought-end i h w =
+  none-end i h w =
       let m : 96 - i ≡ 0 = omega arith in
       let none : from i ≡ 0 = rw m in
       omega (arith, w .passed, none)

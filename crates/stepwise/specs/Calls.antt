@@ -3,7 +3,7 @@
 -- record's A, B, E or F is no step, and is refused before all else, 15. A refusal keeps every word. Assumes nothing.
 use Prim.Native.Nat.{ℕ, _+_, _*_, _/_, _%_, _<_}
 use mathlib.Core.Path.{_≡_}
-use mathlib.Core.Bool.{cond, not}
+use mathlib.Core.Bool.{Bool, cond, not}
 use mathlib.Core.List.{List, [], _∷_}
 use mathlib.Core.Option.{Option, none, some}
 use lib.Dec.{eqb}
@@ -19,7 +19,7 @@ use Rattle.trains.specs.declared.Entry.{Entry}
 use Rattle.trains.specs.declared.First.{First}
 use Rattle.trains.specs.declared.Table.{Table}
 use Rattle.trains.specs.Trains.{isTrain}
-use Rattle.trains.specs.Table.{awayEntry}
+use Rattle.trains.specs.Table.{awayEntry, isOf, isFree}
 use Rattle.cabinet.specs.declared.Answer.{Answer}
 use Rattle.cabinet.specs.declared.Answer.the-variants.{Taken, Refused}
 use Rattle.cabinet.specs.declared.Order.{Order}
@@ -35,6 +35,8 @@ use Rattle.runs.specs.declared.Letter.the-variants as letter
 use Rattle.runs.specs.Run.{answerByte, answerTrain, orElse}
 use Rattle.stepwise.specs.declared.Named.{Named}
 use Rattle.stepwise.specs.declared.Named.the-variants.{As, Nothing}
+use Rattle.stepwise.specs.declared.Sought.{Sought}
+use Rattle.stepwise.specs.declared.Sought.the-variants.{Own, Free}
 use Rattle.stepwise.specs.Words.{controlAt, soonestAt, placeAt, armAt, latestAt, entryWords, firstWords, controlWords, armWords}
 
 -- what a call answers, and the words after it
@@ -127,6 +129,11 @@ putEvent ws h place e = splice (putStep ws (h .motion .control) (h .soonest) pla
 -- the entry at a place
 abbrev pub entryThere : Table → ℕ → Entry
 entryThere t place = getD (t .places) place awayEntry
+
+-- the entry that is sought: present train n's, or one that no train has (for private contracts)
+abbrev pub isSought : Sought → Entry → Bool
+isSought (Own n) e = isOf n e
+isSought Free e = isFree e
 
 -- ---- calls
 

@@ -10,7 +10,7 @@ ghost use Rattle.settings.specs.Values.{thirteen, settingsOf};
 ghost use Rattle.arm.specs.declared.Reading.the-variants.{Angle};
 ghost use Rattle.arm.specs.Shown.{numberOf};
 ghost use Rattle.trains.specs.Trains.{isPresent};
-ghost use Rattle.trains.specs.Table.{isOf, isFree, indexOf, foundFor};
+ghost use Rattle.trains.specs.Table.{indexOf, foundFor};
 ghost use Rattle.trains.specs.First.{firstBut, restOf, askedOf};
 ghost use Rattle.cabinet.specs.declared.Answer.the-variants.{Taken};
 ghost use Rattle.cabinet.specs.declared.Order.{Order};
@@ -19,7 +19,7 @@ ghost use Rattle.runs.specs.Run.{orElse};
 ghost use Rattle.stepwise.specs.Words.{soonestAt, tableAt, placeAt, cabinetLength, benchLength, commandFrom, commandNumber, kindFrom, kindAs, standingFrom, standingNumber, entryFrom, entryIn, entryWords, tableFrom};
 ghost use Rattle.stepwise.specs.Words.{entriesWords, firstIn, firstWords, settingsFrom, ticksFrom, ticksWords, controlFrom, controlWords};
 ghost use Rattle.stepwise.specs.Words.{cabinetWords, headFrom, armWords, benchWords};
-ghost use Rattle.stepwise.specs.Calls.{called, packedAnswer, trainNumber, QuietTick, StillTick, putClock, putControl, putMotion, putStep, putEvent, kindNamed};
+ghost use Rattle.stepwise.specs.Calls.{called, packedAnswer, trainNumber, QuietTick, StillTick, putClock, putControl, putMotion, putStep, putEvent, kindNamed, isSought};
 ghost use Rattle.stepwise.specs.CabinetCalls as cabinetCall;
 ghost use Rattle.stepwise.specs.CabinetCalls.{cabinetStarted, cabinetLooks, cabinetApproaches, cabinetLeaves, cabinetCalled};
 ghost use Rattle.stepwise.specs.BenchCalls as benchCall;
@@ -71,6 +71,12 @@ const BENCH: usize = 411;
 enum Named {
     As(Kind),
     Nothing,
+}
+
+// What is sought in the table: present train n's entry, or one that no train has.
+enum Sought {
+    Own(u32),
+    Free,
 }
 
 // ---- numbers
@@ -234,45 +240,25 @@ fn entry_at(words: &[u32], place: usize) -> Entry
     entry_from(words[i], words[i + 1], words[i + 2], words[i + 3])
 }
 
-// Whether the entry of the four words from `i` on is present train n's.
-fn is_of(words: &[u32], i: usize, n: u32) -> bool
+// Whether the entry of the four words from `i` on is sought.
+fn is_sought(words: &[u32], i: usize, sought: Sought) -> bool
     requires { ⌜ i + 4 ≤ length (now words) ⌝ }
-    ensures { λ r. ⌜ r ≡ isOf n (entryIn (now (words .entry)) i) ⌝ }
+    ensures { λ r. ⌜ r ≡ isSought sought (entryIn (now (words .entry)) i) ⌝ }
 {
-    (words[i + 2] != 0) & (words[i] % 65536 == n)
-}
-
-// Whether no train has it.
-fn is_free(words: &[u32], i: usize) -> bool
-    requires { ⌜ i + 4 ≤ length (now words) ⌝ }
-    ensures { λ r. ⌜ r ≡ isFree (entryIn (now (words .entry)) i) ⌝ }
-{
-    words[i + 2] == 0
-}
-
-// The place of present train n, 96 for none.
-fn own_place(words: &[u32], n: u32) -> usize
-    requires { ⌜ cabinetLength ≤ length (now words) ⌝ }
-    ensures { λ r. ⌜ r ≡ indexOf (isOf n) (tableFrom (now (words .entry)) .places) ⌝ }
-{
-    let mut place: usize = 0;
-    while place < 96 {
-        if is_of(words, TABLE + 4 * place, n) {
-            return place;
-        }
-        place = place + 1;
+    match sought {
+        Sought::Own(n) => (words[i + 2] != 0) & (words[i] % 65536 == n),
+        Sought::Free => words[i + 2] == 0,
     }
-    place
 }
 
-// The first place that no train has, 96 for none.
-fn free_place(words: &[u32]) -> usize
+// The first place of the entry that is sought, 96 for none.
+fn place_of(words: &[u32], sought: Sought) -> usize
     requires { ⌜ cabinetLength ≤ length (now words) ⌝ }
-    ensures { λ r. ⌜ r ≡ indexOf isFree (tableFrom (now (words .entry)) .places) ⌝ }
+    ensures { λ r. ⌜ r ≡ indexOf (isSought sought) (tableFrom (now (words .entry)) .places) ⌝ }
 {
     let mut place: usize = 0;
     while place < 96 {
-        if is_free(words, TABLE + 4 * place) {
+        if is_sought(words, TABLE + 4 * place, sought) {
             return place;
         }
         place = place + 1;
@@ -285,7 +271,7 @@ fn find_in(words: &[u32], n: u32) -> Found
     requires { ⌜ cabinetLength ≤ length (now words) ⌝ }
     ensures { λ r. ⌜ r ≡ foundFor (tableFrom (now (words .entry))) n ⌝ }
 {
-    let own = own_place(words, n);
+    let own = place_of(words, Sought::Own(n));
     if own < 96 {
         return Found {
             place: own,
@@ -293,7 +279,7 @@ fn find_in(words: &[u32], n: u32) -> Found
         };
     }
     Found {
-        place: free_place(words),
+        place: place_of(words, Sought::Free),
         entry: trains::away(),
     }
 }

@@ -7,8 +7,8 @@ use borrow.Author.Needs.{needs}
 use Rattle.stepwise.proofs.find_in.Statement.{statement}
 use Rattle.stepwise.proofs.find_in.Tie as tie
 
-own-place-requires : tie.Need-own-place-requires
-own-place-requires c κs = search needs
+place-of-requires : tie.Need-place-of-requires
+place-of-requires c κs = search needs
 
 entry-at-requires : tie.Need-entry-at-requires
 entry-at-requires c κs = search needs
@@ -16,10 +16,10 @@ entry-at-requires c κs = search needs
 returns : tie.Need-returns
 returns c =
     let at-own = c .before .before in
-    found-own _ _ _ (at-own .own-place .ensures) _ (c .before .if1 .taken) (c .entry-at .ensures)
+    found-own _ _ _ (at-own .place-of .ensures) _ (c .before .if1 .taken) (c .entry-at .ensures)
 
-free-place-requires : tie.Need-free-place-requires
-free-place-requires c κs = search needs
+place-of-requires-2 : tie.Need-place-of-requires-2
+place-of-requires-2 c κs = search needs
 
 away-requires : tie.Need-away-requires
 away-requires c κs = search needs
@@ -27,16 +27,16 @@ away-requires c κs = search needs
 returns-2 : tie.Need-returns-2
 returns-2 c =
     let at-if1 = c .before .before in
-    ap (λ (e : Entry). record { place = c .before .free-place .result; entry = e }) (c .away .ensures)
-    ∙ found-none _ _ _ (at-if1 .before .own-place .ensures) _ (omega (arith, at-if1 .if1 .left)) (c .before .free-place .ensures)
+    ap (λ (e : Entry). record { place = c .before .place-of2 .result; entry = e }) (c .away .ensures)
+    ∙ found-none _ _ _ (at-if1 .before .place-of .ensures) _ (omega (arith, at-if1 .if1 .left)) (c .before .place-of2 .ensures)
 
 pub find-in-spec : {M : Type 1} → statement M
 find-in-spec =
     tie.close
     (tie.spec
-    own-place-requires
+    place-of-requires
     entry-at-requires
     returns
-    free-place-requires
+    place-of-requires-2
     away-requires
     returns-2)
