@@ -190,7 +190,7 @@ fn end_input(desk: Desk, line: &[u8], window: &mut [u8]) -> u8
 }
 
 // Standard input, read as it comes. The status: which one is the operating system's and the input's to decide.
-pub fn bench_input() -> u8
+pub(crate) fn bench_input() -> u8
     ensures { λ r. ⌜ r ≤ 2 ⌝ }
 {
     let fresh = live::fresh();

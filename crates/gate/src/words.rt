@@ -3,7 +3,7 @@ use libc::STDERR_FILENO;
 use libc::STDOUT_FILENO;
 
 // On standard output; whether it was written.
-pub fn put_out(bytes: &[u8]) -> bool {
+pub(crate) fn put_out(bytes: &[u8]) -> bool {
     if io::write_all(STDOUT_FILENO, bytes) {
         return true;
     }
@@ -11,7 +11,7 @@ pub fn put_out(bytes: &[u8]) -> bool {
     false
 }
 
-pub fn say(words: &[u8]) {
+pub(crate) fn say(words: &[u8]) {
     io::write_all(STDERR_FILENO, words);
 }
 
@@ -40,7 +40,7 @@ fn say_reason(number: u8, format: &[u8]) {
 }
 
 // The line, the number and the words of a refusal.
-pub fn say_refusal(line: u64, number: u8, format: &[u8]) {
+pub(crate) fn say_refusal(line: u64, number: u8, format: &[u8]) {
     say(b"line ");
     io::print_decimal(STDERR_FILENO, line);
     say(b": refused ");
