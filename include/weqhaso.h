@@ -5,7 +5,7 @@
  *
  * Memory. The caller owns all of it. The library has no memory of its own and no global state, allocates nothing, keeps no pointer
  * after a call, and calls nothing but memcpy. A call always ends, never blocks and has no condition on the numbers that it is given.
- * Its stack: WEQHASO_STEP_STACK, WEQHASO_STACK.
+ * Its stack: WEQHASO_STEP_STACK, WEQHASO_START_STACK, WEQHASO_STACK.
  *
  * Slices. Each is passed as a pointer and a length, which counts elements. Pointers are aligned as C aligns what they point to;
  * null is allowed only with length 0. The slices of one call must not overlap. A refused call leaves every element as it was, and
@@ -46,10 +46,11 @@ extern "C" {
 #define WEQHASO_REPORT_LONGEST 65535u     /* the longest text that is reported; a longer one gets a report that says so */
 #define WEQHASO_REPORT_BYTES 156000u      /* enough for every report */
 
-/* Bytes of stack (x86-64) that are more than enough: for a clock call, for any call of a bench, for any call of one step, for any call. */
+/* Bytes of stack (x86-64) that are more than enough: for a clock call, for any call of one step, pose and gate too, for the start of a
+   cabinet or a bench, for any call. */
 #define WEQHASO_CLOCK_STACK 128u
-#define WEQHASO_BENCH_STACK 3072u
-#define WEQHASO_STEP_STACK 10240u
+#define WEQHASO_STEP_STACK 512u
+#define WEQHASO_START_STACK 3072u
 #define WEQHASO_STACK 13312u
 
 /* Bytes that are enough for the record of so many steps; for an older record of so many bytes in 15 columns, and back in 14. */
