@@ -49,9 +49,9 @@ extern "C" {
 /* Bytes of stack (x86-64) that are more than enough: for a clock call, for any call of one step, pose and gate too, for the start of a
    cabinet or a bench, for any call. */
 #define WEQHASO_CLOCK_STACK 128u
-#define WEQHASO_STEP_STACK 512u
+#define WEQHASO_STEP_STACK 640u
 #define WEQHASO_START_STACK 3072u
-#define WEQHASO_STACK 13312u
+#define WEQHASO_STACK 10240u
 
 /* Bytes that are enough for the record of so many steps; for an older record of so many bytes in 15 columns, and back in 14. */
 #define WEQHASO_RECORD_BYTES(steps) (WEQHASO_LINE_BYTES * (15u + 2u * (size_t)(steps)))
