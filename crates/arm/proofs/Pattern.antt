@@ -2,13 +2,13 @@
 use Prim.Native.Nat.{ℕ, _+_, _-_, _*_, _/_, _%_, _^_, _≤_, _<_}
 use native.Mathlib.Nat.{mul-one, zero-mul, mul-right-comm, mul-pos, eq-of-mul-eq-mul-right}
 use native.Mathlib.Omega.{arith}
-use mathlib.Core.Path.{_≡_, refl, sym, ap, _∙_}
+use mathlib.Core.Path.{_≡_, sym, ap, _∙_}
 use mathlib.Core.Bool.{Bool, true, false, not, true≢false, false≢true}
 use lib.Dec.{T, leb, lit<}
 use lib.IntN.{pos}
 use lib.Pow.{pow-pos}
 use borrow.Author.Tests.{lt-ltb, lt-leb}
-use lib.Ieee.{Float, nan, inf, fin, binary32, round, odd, sum, add, lt, isNan, ofFields, ofBits, toBits, up, down}
+use lib.Ieee.{Float, nan, inf, fin, binary32, odd, sum, add, lt, isNan, ofFields, ofBits, toBits, up, down}
 use lib.Ieee.Exact.{HasValue, odd-sign}
 use lib.Ieee.Back.{round-whole, whole-unique}
 use lib.Ieee.Bits.{ofBits-fits, toBits-ofBits}

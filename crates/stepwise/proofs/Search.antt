@@ -5,10 +5,9 @@ use mathlib.Core.Path.{_≡_, refl, sym, ap, _∙_}
 use mathlib.Core.Bool.{Bool, true, false, cond, not, _&&_}
 use mathlib.Core.List.{List}
 use lib.Dec.{eqb}
-use lib.ListN.{length, getD, List·getD-eq-default}
+use lib.ListN.{getD, List·getD-eq-default}
 use Rattle.trains.specs.declared.Standing.the-variants.{Away, Coming, Inside}
 use Rattle.trains.specs.declared.Entry.{Entry}
-use Rattle.trains.specs.declared.Found.{Found}
 use Rattle.trains.specs.declared.First.{First}
 use Rattle.trains.specs.declared.First.the-variants.{Nobody}
 use Rattle.trains.specs.Trains.{isPresent}

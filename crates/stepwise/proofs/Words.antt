@@ -1,11 +1,11 @@
 -- Words read entry by entry and written part by part. Assumes nothing.
-use Prim.Native.Nat.{ℕ, zero, suc, _+_, _*_, _-_, _≤_, _<_}
+use Prim.Native.Nat.{ℕ, zero, suc, _+_, _*_, _≤_, _<_}
 use native.Mathlib.Numerals.{add-one}
 use native.Mathlib.Omega.{arith}
-use mathlib.Core.Path.{_≡_, refl, sym, ap, _∙_}
+use mathlib.Core.Path.{_≡_, refl, ap, _∙_}
 use mathlib.Core.List.{List, [], _∷_, _++_, append-nil, append-assoc}
-use lib.ListN.{length, take, getD, set, length-set, length-append, drop-of-length-le}
-use lib.Seq.{take-suc, take-suc-set, take-length, append-snoc, length-take-le}
+use lib.ListN.{length, take, getD, set, length-append, drop-of-length-le}
+use lib.Seq.{take-suc, take-length, length-take-le}
 use Rattle.lines.specs.Bytes.{splice}
 use Rattle.lines.proofs.Splices.{splice-none, splice-one, splice-then, store-then, length-splice}
 use Rattle.trains.specs.declared.Entry.{Entry}
@@ -13,7 +13,7 @@ use Rattle.trains.specs.Table.{awayEntry}
 use Rattle.settings.specs.Values.{thirteen}
 use Rattle.cabinet.specs.declared.Cabinet.{Cabinet}
 use Rattle.bench.specs.declared.Bench.{Bench}
-use Rattle.stepwise.specs.Words.{entryIn, entryWords, entriesFrom, entriesWords, firstWords, ticksWords, controlWords, cabinetWords, cabinetIn, armWords, benchWords}
+use Rattle.stepwise.specs.Words.{entryWords, entriesFrom, entriesWords, firstWords, ticksWords, controlWords, cabinetWords, cabinetIn, armWords, benchWords}
 
 -- ---- words stored one after another
 

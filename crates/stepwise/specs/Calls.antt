@@ -85,7 +85,7 @@ trainNumber n = refuse (not (isTrain n)) 5 0
 abbrev pub startedBy : ℕ → List ℕ → List ℕ → Called
 startedBy k new ws = called k (unless k (λ j. ws) new)
 
--- ---- a clock step of which nothing but the instant shows
+-- ---- a clock step that gives no command (for private contracts)
 
 -- the command is up, and under any settings the step is taken and gives no command
 pub record QuietTick (ticks : Ticks) (soonest : First) (w : Control) : Type 0 where
@@ -93,7 +93,7 @@ pub record QuietTick (ticks : Ticks) (soonest : First) (w : Control) : Type 0 wh
   pub up : w .command ≡ Up
   pub gives : (s : Settings) → ticked s ticks soonest w ≡ record { answer = Taken order.Nothing; control = later w }
 
--- so is a bench's, with an angle that is allowed
+-- a bench's with this angle is taken and gives no command: the instant and the arm's angles are all that it changes
 pub record StillTick (h : Head) (angle : ℕ) : Type 0 where
   pub goes-on : h .motion .control .now < 9999999
   pub gives : headTicked h (Angle angle)
