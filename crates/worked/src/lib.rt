@@ -1,4 +1,6 @@
 // The settings K of document 01, those that its bench cases get from K, and settings with four kinds of train (document 02, "Three").
+#![tactic(auto)]
+
 ghost use Rattle.std.specs.Prelude.{◌≡◌};
 ghost use Rattle.worked.specs.Worked.{like, K, mixed};
 
