@@ -4,7 +4,7 @@
 use Prim.Native.Nat.{ℕ, zero, suc, ◌+◌}
 use native.Mathlib.Omega.{arith}
 use native.Mathlib.Decide.{ℕ_discrete}
-use mathlib.Core.Path.{◌≡◌, refl, sym, ◌∙◌, ap, ap₂}
+use mathlib.Core.Path.{◌≡◌, refl, sym, ◌∙◌, ap, ap₂, subst}
 use mathlib.Core.Bool.{Bool, true, false, not, ◌&&◌, cond, true≢false}
 use mathlib.Core.List.{List, [], ◌∷◌, map}
 use mathlib.Core.Logic.{inl, inr, ◌≢◌}
@@ -167,7 +167,9 @@ module _ {told : Bool} {s : Settings} {h : History} {u : Settings} {i : ℕ} {t 
       }
     where
       there : (k : ℕ) → Dec (k ≡ n) → entry_of (put t n entry) k ≡ shown told k (place k (x ∷ h)) (since k (x ∷ h)) (kind_of k (x ∷ h))
-      there k (yes d) = rw d (put_same t n entry m.formed room fits ∙ e)
+      there k (yes d) =
+          subst (λ (j : ℕ). entry_of (put t n entry) j ≡ shown told j (place j (x ∷ h)) (since j (x ∷ h)) (kind_of j (x ∷ h))) (sym d)
+          (put_same t n entry m.formed room fits ∙ e)
       there k (no d) = let o = others k d in put_other t n entry m.formed room fits k d ∙ m.stands k ∙ sym (λ j. shown told k (o.0 j) (o.1 j) (o.2 j))
 
   -- whether a train is present, by where it is

@@ -19,7 +19,7 @@ use Rattle.cabinet.specs.declared.Order.{Order}
 use Rattle.cabinet.specs.declared.Answer.{Answer}
 use Rattle.runs.specs.declared.Step.{Step}
 use Rattle.runs.specs.declared.Step.TheVariants.{Approach, Occupy, Leave, Clock}
-use Rattle.runs.specs.History.{History, instant, arm, Place, away, coming, inside, place, is_away, is_coming, since, trains_present, due_at, latest_at, some_train, some_due, some_late, lowering, raising, look, command, step_refusal, keep, after, given, order_at, history, step_refusals, orders, kind_of}
+use Rattle.runs.specs.History.{History, instant, Place, away, coming, inside, place, is_away, is_coming, since, trains_present, due_at, latest_at, some_train, some_due, some_late, lowering, raising, look, command, step_refusal, keep, after, given, order_at, history, step_refusals, orders, kind_of}
 use Rattle.runs.specs.Steps.{answers_to, bench_stepped, bench_after, bench_answers}
 use Rattle.runs.specs.Demand.{answer_of, entry_from}
 use Rattle.runs.specs.Match.{Valid, Match}
@@ -161,25 +161,25 @@ module _ (s : Settings) where
 
   pub numbers_same : (xs : List Step) {h g : History} → Alike h g → step_refusals s h xs ≡ step_refusals s g xs
   unfolding step_refusals
-  numbers_same [] same = refl
-  numbers_same (x ∷ xs) same = ap₂ (λ (k : ℕ) (l : List ℕ). k ∷ l) (number_same same x) (numbers_same xs (after_same same x))
+  numbers_same [] alike = refl
+  numbers_same (x ∷ xs) alike = ap₂ (λ (k : ℕ) (l : List ℕ). k ∷ l) (number_same alike x) (numbers_same xs (after_same alike x))
 
   pub orders_same : (xs : List Step) {h g : History} → Alike h g → orders s h xs ≡ orders s g xs
   unfolding orders
-  orders_same [] same = refl
-  orders_same (x ∷ xs) same = ap₂ (λ (o : Order) (l : List Order). o ∷ l) (order_same same x) (orders_same xs (after_same same x))
+  orders_same [] alike = refl
+  orders_same (x ∷ xs) alike = ap₂ (λ (o : Order) (l : List Order). o ∷ l) (order_same alike x) (orders_same xs (after_same alike x))
 
   -- benches that are as the rules say of such histories answer alike
   pub answers_same : (xs : List Step) (h g : History) (b c : Bench) → Valid s h → Valid s g → Match s h b → Match s g c → Alike h g →
       bench_answers b xs ≡ bench_answers c xs
   unfolding answers_to
-  answers_same [] h g b c v w p q same = refl
-  answers_same (x ∷ xs) h g b c v w p q same =
+  answers_same [] h g b c v w p q alike = refl
+  answers_same (x ∷ xs) h g b c v w p q alike =
       let y = step_stands s h b p v x in
       let z = step_stands s g c q w x in
-      ap₂ (λ (a : Answer) (l : List Answer). a ∷ l) (y.answer ∙ ap₂ answer_of (number_same same x) (order_same same x) ∙ sym z.answer)
+      ap₂ (λ (a : Answer) (l : List Answer). a ∷ l) (y.answer ∙ ap₂ answer_of (number_same alike x) (order_same alike x) ∙ sym z.answer)
       (answers_same xs (after s h x) (after s g x) (bench_stepped b x).bench (bench_stepped c x).bench
-      (valid_after s h x v) (valid_after s g x w) y.match z.match (after_same same x))
+      (valid_after s h x v) (valid_after s g x w) y.match z.match (after_same alike x))
 
   -- and are alike
   pub bench_same : (xs ys : List Step) → SameMoment s (history s [] xs) (history s [] ys) →
