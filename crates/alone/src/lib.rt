@@ -1,4 +1,6 @@
 // A cabinet alone, taken through a list of what it hears that lies in lent slices, as `runs::run` takes a bench.
+#![tactic(auto)]
+
 ghost use Rattle.std.specs.Prelude.{◌≡◌, length};
 ghost use Rattle.cabinet.specs.Cabinet.{refused};
 ghost use Rattle.runs.specs.declared.Feed.TheVariants.{ToCabinet};
@@ -12,7 +14,7 @@ use runs::{Feed, Letter};
 use settings::{Settings, Verdict};
 
 // Whether a list was taken, and the cabinet after it.
-#[derive(Drop)]
+#[derive(Clone, Copy)]
 pub struct Ended {
     pub verdict: Verdict,
     pub cabinet: Cabinet,
