@@ -1,10 +1,12 @@
 // The starred bench cases of document 01 through the built functions, as three tables. Each check is proved: by the contracts of what it
 // calls, and by what the rules give for the whole table.
+#![tactic(auto)]
+
 ghost use Rattle.std.specs.Prelude.{◌≡◌};
 ghost use Rattle.starred.specs.Tables.{FallsRight, ChangesRight, ruled, expected, ListsRight};
 
 // a: a fall rate, and D.
-#[derive(Drop)]
+#[derive(Clone, Copy)]
 struct Fall(u32, u32);
 
 const FALLS: [Fall; 5] = [
@@ -16,7 +18,7 @@ const FALLS: [Fall; 5] = [
 ];
 
 // b, c, d: E, Q, X and Y of settings that are K but for these, and their refusal number.
-#[derive(Drop)]
+#[derive(Clone, Copy)]
 struct Change(u32, u32, u32, u32, u8);
 
 const CHANGES: [Change; 5] = [
@@ -29,7 +31,7 @@ const CHANGES: [Change; 5] = [
 
 // e to j: a list of so many steps under K, the refusal number of each, 0 where it is taken, the letter of its command, 0 where it gives
 // none, and the train of a lower, 0 for none. The places past its steps are blank or 0.
-#[derive(Drop)]
+#[derive(Clone, Copy)]
 struct Listed {
     steps: usize,
     letters: [u8; 9],

@@ -1,5 +1,4 @@
--- `starred::main`: the rules give what every row of the tables expects. Assumes nothing.
-use mathlib.Core.Path.{refl}
+use Rattle.std.proofs.Common.{refl}
 use lib.Ieee.{of_bits}
 use Rattle.settings.specs.Settings as settings
 use Rattle.settings.specs.Settings.{ticks_for, in_range, too_soon, spread, settings_refusal}
@@ -10,20 +9,12 @@ use Rattle.trains.specs.First.{earlier_of}
 use Rattle.runs.specs.History.{due_at, latest_at, some_train, due_of, soonest, command, step_refusal, step_refusals, orders}
 use Rattle.runs.specs.Letters.{letter_of}
 use Rattle.runs.specs.Run.{all_of, steps_of, run_refusal}
-use borrow.Author.Rules.{rules}
-use Rattle.starred.proofs.main.Statement.{statement}
-use Rattle.starred.proofs.main.Tie as tie
+use Rattle.starred.proofs.main.Goals as goal
 
-check_settings_requires : tie.Need-check-settings-requires
+pub check_settings-requires : goal.check_settings-requires
 unfolding ticks_for in_range too_soon spread settings_refusal settings.verdict
-check_settings_requires c κs = (record { whole = refl }, record { whole = refl })
+check_settings-requires c = (record { whole = refl }, record { whole = refl })
 
-check_lists_requires : tie.Need-check-lists-requires
+pub check_lists-requires : goal.check_lists-requires
 unfolding run_refusal settings_refusal in_range too_soon spread ticks_for all_of letter_of steps_of step_refusals orders step_refusal command some_train due_of soonest earlier_of due_at latest_at is_train reading_of may_move of_bits
-check_lists_requires c κs = record { whole = refl }
-
-returns : tie.Need-returns
-returns c = search rules
-
-pub main_spec : {M : Type 1} → statement M
-main_spec = tie.close (tie.spec check_settings_requires check_lists_requires returns)
+check_lists-requires c = record { whole = refl }
