@@ -79,6 +79,7 @@ module _ (test : Entry → Bool) (ws : List ℕ) where
 -- an entry of the table by its place
 entry_there_law : (ws : List ℕ) (many i k : ℕ) → k < many → get_or (entries_from ws i many) k away_entry ≡ entry_in ws (i + 4 * k)
 unfolding entries_from
+entry_there_law ws zero i k h = elim h [ ]
 entry_there_law ws (suc many) i zero h = ap (entry_in ws) (omega arith)
 entry_there_law ws (suc many) i (suc k) h = entry_there_law ws many (i + 4) k (omega arith) ∙ ap (entry_in ws) (omega arith)
 

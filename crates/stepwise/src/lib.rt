@@ -1,5 +1,7 @@
 // A cabinet and a bench in words that the caller lends, one call a step. A clock step reads and writes words beside the table alone; a
 // train's step reads the table, and writes the words of one entry.
+#![tactic(auto)]
+
 ghost use Rattle.std.specs.Prelude.{◌+◌, ◌<◌, ◌≤◌, ◌≡◌, true, [], ◌∷◌, ◌++◌, length};
 ghost use Rattle.lines.specs.Bytes.{splice};
 ghost use Rattle.settings.specs.Values.{thirteen, settings_of};
@@ -48,14 +50,14 @@ const LATEST: usize = 407;
 const BENCH: usize = 411;
 
 // The kind of approach that a letter names, if it names one.
-#[derive(Drop)]
+#[derive(Clone, Copy)]
 enum Named {
     As(Kind),
     Nothing,
 }
 
 // What is sought in the table: present train n's entry, or one that no train has.
-#[derive(Drop)]
+#[derive(Clone, Copy)]
 enum Sought {
     Own(u32),
     Free,
@@ -162,6 +164,7 @@ fn first_from(words: &[u32], at: usize) -> First
     }
 }
 
+#[tactic(auto, unfolding(crate::specs::Words::settings_from))]
 fn settings_from(words: &[u32]) -> Settings
     requires { cabinet_length ≤ length words.now }
     ensures { result ≡ settings_from words.now }
@@ -223,6 +226,7 @@ fn entry_at(words: &[u32], place: usize) -> Entry
 }
 
 // Whether the entry of the four words from `i` on is sought.
+#[tactic(auto, using(crate::proofs::Search::of_words, crate::proofs::Search::free_words))]
 fn is_sought(words: &[u32], i: usize, sought: Sought) -> bool
     requires { i + 4 ≤ length words.now }
     ensures { result ≡ is_sought sought (entry_in words.now i) }
@@ -234,6 +238,7 @@ fn is_sought(words: &[u32], i: usize, sought: Sought) -> bool
 }
 
 // The first place of the entry that is sought, 96 for none.
+#[tactic(auto, using(crate::proofs::Search::none_start, crate::proofs::Search::none_next, crate::proofs::Search::none_found, crate::proofs::Search::none_end))]
 fn place_of(words: &[u32], sought: Sought) -> usize
     requires { cabinet_length ≤ length words.now }
     ensures { result ≡ index_of (is_sought sought) (table_from words.now).places }
@@ -249,6 +254,7 @@ fn place_of(words: &[u32], sought: Sought) -> usize
 }
 
 // Train n in the table, as `trains::Table::find` gives it, and no other entry decoded.
+#[tactic(auto, using(crate::proofs::Search::found_own, crate::proofs::Search::found_none))]
 fn find_in(words: &[u32], n: u32) -> Found
     requires { cabinet_length ≤ length words.now }
     ensures { result ≡ found_for (table_from words.now) n }
@@ -267,6 +273,7 @@ fn find_in(words: &[u32], n: u32) -> Found
 }
 
 // Who is first of all trains but n, as `trains::Table::first_but` gives it, from the last place to the first.
+#[tactic(auto, using(crate::proofs::Search::first_from, crate::proofs::Search::first_end, crate::proofs::Search::first_next), unfolding(trains::specs::First::first_but))]
 fn first_but_in(words: &[u32], s: Settings, q: Question, n: u32) -> First
     requires { cabinet_length ≤ length words.now }
     ensures { result ≡ first_but s q n (table_from words.now) }
@@ -281,6 +288,7 @@ fn first_but_in(words: &[u32], s: Settings, q: Question, n: u32) -> First
 }
 
 // Who is first without train n: the table is read through only where that was train n.
+#[tactic(auto, unfolding(trains::specs::First::rest_of))]
 fn rest_in(words: &[u32], s: Settings, q: Question, was: First, n: u32) -> First
     requires { cabinet_length ≤ length words.now }
     ensures { result ≡ rest_of s q was n (table_from words.now) }
@@ -292,6 +300,7 @@ fn rest_in(words: &[u32], s: Settings, q: Question, was: First, n: u32) -> First
 }
 
 // What the table says of train n, as `trains::Table::ask` does.
+#[tactic(auto, using(trains::proofs::Laws::place_room, crate::proofs::Words::entries_many))]
 fn ask_in(words: &[u32], s: Settings, q: Question, was: First, n: u32) -> Asked
     requires { cabinet_length ≤ length words.now }
     ensures { (result ≡ asked_of (table_from words.now) s q was n) × (is_present result.entry.standing ≡ true → result.place < 96) }
@@ -307,6 +316,7 @@ fn ask_in(words: &[u32], s: Settings, q: Question, was: First, n: u32) -> Asked
 }
 
 // The head of the bench that the words hold.
+#[tactic(auto, unfolding(crate::specs::Words::head_from))]
 fn head_from(words: &[u32]) -> Head
     requires { bench_length ≤ length words.now }
     ensures { result ≡ head_from words.now }
@@ -326,6 +336,7 @@ fn head_from(words: &[u32]) -> Head
 
 // ---- to words
 
+#[tactic(auto, using(crate::proofs::Words::two_spliced))]
 fn put_two(words: &mut [u32], at: usize, a: u32, b: u32)
     requires { at + 2 ≤ length words.old }
     ensures { words.new ≡ splice words.old at (a ∷ b ∷ []) }
@@ -334,6 +345,7 @@ fn put_two(words: &mut [u32], at: usize, a: u32, b: u32)
     words[at + 1] = b;
 }
 
+#[tactic(auto, using(crate::proofs::Words::four_spliced))]
 fn put_four(words: &mut [u32], at: usize, a: u32, b: u32, c: u32, d: u32)
     requires { at + 4 ≤ length words.old }
     ensures { words.new ≡ splice words.old at (a ∷ b ∷ c ∷ d ∷ []) }
@@ -382,6 +394,7 @@ fn put_entry(words: &mut [u32], place: usize, e: Entry)
     );
 }
 
+#[tactic(auto, using(lines::proofs::Splices::length_splice, crate::proofs::Words::settings_spliced))]
 fn put_settings(words: &mut [u32], s: Settings, ticks: Ticks)
     requires { cabinet_length ≤ length words.old }
     ensures { words.new ≡ splice words.old 0 (thirteen s ++ ticks_words ticks) }
@@ -404,6 +417,7 @@ fn put_settings(words: &mut [u32], s: Settings, ticks: Ticks)
     words[14] = ticks.rise;
 }
 
+#[tactic(auto, using(trains::proofs::Lists::length_mapped, crate::proofs::Words::writing_start, crate::proofs::Words::writing_next, crate::proofs::Words::writing_end, crate::proofs::Words::writing_length))]
 fn put_table(words: &mut [u32], t: Table)
     requires { cabinet_length ≤ length words.old }
     ensures { words.new ≡ splice words.old table_at (entries_words t.places) }
@@ -417,6 +431,7 @@ fn put_table(words: &mut [u32], t: Table)
 }
 
 // All words of a cabinet.
+#[tactic(auto, using(crate::proofs::Words::cabinet_spliced))]
 fn put_cabinet(words: &mut [u32], c: Cabinet)
     requires { cabinet_length ≤ length words.old }
     ensures { words.new ≡ splice words.old 0 (cabinet_words c) }
@@ -429,6 +444,7 @@ fn put_cabinet(words: &mut [u32], c: Cabinet)
 }
 
 // All words of a bench.
+#[tactic(auto, using(trains::proofs::Lists::length_mapped, crate::proofs::Words::bench_spliced))]
 fn put_bench(words: &mut [u32], b: Bench)
     requires { bench_length ≤ length words.old }
     ensures { words.new ≡ splice words.old 0 (bench_words b) }
@@ -487,6 +503,7 @@ fn pack(a: Answer) -> u64
 }
 
 // A clock step that is taken: the instant, and the command where one is given; what it answers.
+#[tactic(auto, using(crate::proofs::Calls::clock_quiet, crate::proofs::Calls::clock_lowers, crate::proofs::Calls::clock_raises))]
 fn settle_clock(words: &mut [u32], o: Order, w: Control) -> u64
     requires { cabinet_length ≤ length words.old }
     ensures { called result words.new ≡ called (packed_answer (Taken o)) (put_clock words.old o w) }
@@ -561,6 +578,7 @@ fn kind_named(byte: u8) -> Named
 
 // A fresh cabinet under the settings, thirteen values in their order (one that is missing is 0, and so refused, 1), in 405 words
 // (`cabinet::start`). Refusals 1 to 4; 14 last, where there are not 405 words.
+#[tactic(auto, using(crate::proofs::CabinetCalls::cabinet_start_taken, crate::proofs::CabinetCalls::cabinet_start_refused, crate::proofs::Calls::full_none))]
 pub fn cabinet_start(words: &mut [u32], values: &[u32]) -> u64
     ensures { called result words.new ≡ cabinet_started words.old (settings_of values.now) }
 {
@@ -575,6 +593,7 @@ pub fn cabinet_start(words: &mut [u32], values: &[u32]) -> u64
 }
 
 // A train's step that is taken: the look with the train that is then soonest, and what the step changes.
+#[tactic(auto, using(crate::proofs::CabinetCalls::looks_step))]
 fn hear(words: &mut [u32], soonest: First, place: usize, e: Entry) -> u64
     requires { (cabinet_length ≤ length words.old) × (place < 96) }
     ensures { called result words.new ≡ cabinet_looks words.old soonest place e }
@@ -588,6 +607,7 @@ fn hear(words: &mut [u32], soonest: First, place: usize, e: Entry) -> u64
 }
 
 // An approach, as `cabinet::Cabinet::approach` takes it.
+#[tactic(auto, using(trains::proofs::Laws::train_says, cabinet::proofs::Laws::approach_says, crate::proofs::CabinetCalls::approach_room, crate::proofs::CabinetCalls::approach_taken, crate::proofs::CabinetCalls::approach_refused))]
 fn hear_approach(words: &mut [u32], kind: Kind, n: u32) -> u64
     requires { cabinet_length ≤ length words.old }
     ensures { called result words.new ≡ cabinet_approaches words.old kind n }
@@ -606,6 +626,7 @@ fn hear_approach(words: &mut [u32], kind: Kind, n: u32) -> u64
 }
 
 // A leave, as `cabinet::Cabinet::leave` takes it.
+#[tactic(auto, using(crate::proofs::CabinetCalls::leave_room, crate::proofs::CabinetCalls::leave_taken, crate::proofs::CabinetCalls::leave_refused))]
 fn hear_leave(words: &mut [u32], n: u32) -> u64
     requires { cabinet_length ≤ length words.old }
     ensures { called result words.new ≡ cabinet_leaves words.old n }
@@ -625,6 +646,7 @@ fn hear_leave(words: &mut [u32], n: u32) -> u64
 
 // A train approaches, by the record's letter of its kind (`cabinet::Cabinet::approach`). 15 first, another letter; refusals 5, 6 and 17;
 // 14 last, where there are not 405 words.
+#[tactic(auto, using(crate::proofs::CabinetCalls::approach_wrong, crate::proofs::CabinetCalls::approach_steps, crate::proofs::CabinetCalls::approach_none))]
 pub fn cabinet_approach(words: &mut [u32], letter: u8, n: u32) -> u64
     ensures { called result words.new ≡ cabinet_called words.old (cabinetCall.approaching letter n) }
 {
@@ -641,6 +663,7 @@ pub fn cabinet_approach(words: &mut [u32], letter: u8, n: u32) -> u64
 }
 
 // A present train leaves (`cabinet::Cabinet::leave`). Refusals 5 and 9; 14 last, where there are not 405 words.
+#[tactic(auto, using(crate::proofs::CabinetCalls::leave_wrong, crate::proofs::CabinetCalls::leave_steps))]
 pub fn cabinet_leave(words: &mut [u32], n: u32) -> u64
     ensures { called result words.new ≡ cabinet_called words.old (cabinetCall.leaving n) }
 {
@@ -651,6 +674,7 @@ pub fn cabinet_leave(words: &mut [u32], n: u32) -> u64
 }
 
 // Whether a tick surely gives no command: the command is up, the clock goes on, and nobody is due by the look's horizon.
+#[tactic(auto, using(crate::proofs::CabinetCalls::quiet_words))]
 fn is_quiet(words: &[u32]) -> bool
     requires { cabinet_length ≤ length words.now }
     ensures { result ≡ true → QuietTick (ticks_from words.now) (first_in words.now soonest_at) (control_from words.now) }
@@ -668,6 +692,7 @@ fn is_quiet(words: &[u32]) -> bool
 }
 
 // The clock moves by one tick (`cabinet::tick`). Refusal 10; 14 last, where there are not 405 words.
+#[tactic(auto, using(crate::proofs::CabinetCalls::clock_wrong, crate::proofs::CabinetCalls::clock_taken, crate::proofs::CabinetCalls::clock_refused, crate::proofs::CabinetCalls::clock_still))]
 pub fn cabinet_clock(words: &mut [u32]) -> u64
     ensures { called result words.new ≡ cabinet_called words.old cabinetCall.ticking }
 {
@@ -692,6 +717,7 @@ pub fn cabinet_clock(words: &mut [u32]) -> u64
 // ---- the bench
 
 // A fresh bench under the settings, in 411 words (`bench::start`). Refusals 1 to 4; 14 last, where there are not 411 words.
+#[tactic(auto, using(crate::proofs::BenchCalls::bench_start_taken, crate::proofs::BenchCalls::bench_start_refused, crate::proofs::Calls::full_none))]
 pub fn bench_start(words: &mut [u32], values: &[u32]) -> u64
     ensures { called result words.new ≡ bench_started words.old (settings_of values.now) }
 {
@@ -706,6 +732,7 @@ pub fn bench_start(words: &mut [u32], values: &[u32]) -> u64
 }
 
 // A sensor's event.
+#[tactic(auto, using(runs::proofs::Turns::asked_by, runs::proofs::Turns::taken_place, crate::proofs::BenchCalls::held_is, crate::proofs::BenchCalls::event_wrong, crate::proofs::BenchCalls::event_taken, crate::proofs::BenchCalls::event_refused))]
 fn bench_event(words: &mut [u32], e: Event, n: u32) -> u64
     ensures { called result words.new ≡ bench_senses words.old e n }
 {
@@ -730,6 +757,7 @@ fn bench_event(words: &mut [u32], e: Event, n: u32) -> u64
 
 // A train approaches, by the record's letter of its kind. 15 first, another letter; refusals 5, 6 and 17; 14 last, where there are not 411
 // words.
+#[tactic(auto, using(crate::proofs::BenchCalls::approach_event, crate::proofs::BenchCalls::approach_none))]
 pub fn bench_approach(words: &mut [u32], letter: u8, n: u32) -> u64
     ensures { called result words.new ≡ bench_called words.old (benchCall.approaching letter n) }
 {
@@ -741,6 +769,7 @@ pub fn bench_approach(words: &mut [u32], letter: u8, n: u32) -> u64
 }
 
 // A coming train goes inside, at its due instant or later. Refusals 5, 7 and 8; 14 last, where there are not 411 words.
+#[tactic(auto, unfolding(crate::specs::BenchCalls::bench_called, crate::specs::BenchCalls::bench_takes))]
 pub fn bench_occupy(words: &mut [u32], n: u32) -> u64
     ensures { called result words.new ≡ bench_called words.old (benchCall.occupying n) }
 {
@@ -748,6 +777,7 @@ pub fn bench_occupy(words: &mut [u32], n: u32) -> u64
 }
 
 // A train inside leaves. Refusals 5 and 9; 14 last, where there are not 411 words.
+#[tactic(auto, unfolding(crate::specs::BenchCalls::bench_called, crate::specs::BenchCalls::bench_takes))]
 pub fn bench_leave(words: &mut [u32], n: u32) -> u64
     ensures { called result words.new ≡ bench_called words.old (benchCall.leaving n) }
 {
@@ -755,6 +785,7 @@ pub fn bench_leave(words: &mut [u32], n: u32) -> u64
 }
 
 // Whether a tick with this angle surely gives no command: it gives a cabinet none, nobody is at its latest instant, and the arm may go there.
+#[tactic(auto, using(crate::proofs::BenchCalls::still_words))]
 fn is_still(words: &[u32], angle: u16) -> bool
     requires { (bench_length ≤ length words.now) × (angle ≤ 5760) }
     ensures { result ≡ true → StillTick (head_from words.now) angle }
@@ -771,6 +802,7 @@ fn is_still(words: &[u32], angle: u16) -> bool
 }
 
 // A clock step with a reading in 64ths, as `bench::Head::tick` takes it.
+#[tactic(auto, using(crate::proofs::BenchCalls::reads_taken, crate::proofs::BenchCalls::reads_refused))]
 fn tick_in(words: &mut [u32], read: Reading) -> u64
     requires { bench_length ≤ length words.old }
     ensures { called result words.new ≡ bench_reads words.old read }
@@ -785,6 +817,7 @@ fn tick_in(words: &mut [u32], read: Reading) -> u64
 }
 
 // One with an allowed angle: where it surely gives no command, only the arm and the instant are written.
+#[tactic(auto, using(crate::proofs::BenchCalls::still_goes_on, crate::proofs::BenchCalls::reads_still))]
 fn tick_to(words: &mut [u32], angle: u16) -> u64
     requires { (bench_length ≤ length words.old) × (angle ≤ 5760) }
     ensures { called result words.new ≡ bench_reads words.old (Angle angle) }
@@ -800,6 +833,7 @@ fn tick_to(words: &mut [u32], angle: u16) -> u64
 }
 
 // The clock moves by one tick and brings a reading in degrees. Refusals 10 to 13; 14 last, where there are not 411 words.
+#[tactic(auto, using(arm::proofs::Readings::angle_in_range, crate::proofs::BenchCalls::clock_wrong, crate::proofs::BenchCalls::clock_reads))]
 pub fn bench_clock(words: &mut [u32], reading: f32) -> u64
     ensures { called result words.new ≡ bench_called words.old (benchCall.ticking reading) }
 {
@@ -817,6 +851,7 @@ pub fn bench_clock(words: &mut [u32], reading: f32) -> u64
 
 // The pose in the first two places of `pose`: the angle and its change over the last clock step, in degrees. 0, or 14 where there are not
 // 411 words or fewer than two places.
+#[tactic(auto, using(crate::proofs::Shown::pose_wrong, crate::proofs::Shown::pose_few, crate::proofs::Shown::pose_there))]
 pub fn bench_pose(words: &[u32], pose: &mut [f32]) -> u64
     ensures { showed result pose.new ≡ pose_shown words.now pose.old }
 {
@@ -847,6 +882,7 @@ pub fn gate_number(gate: Gate) -> u32
 
 // 256 times the gate, and in the first place of `angle` that of a gate that falls or rises, in degrees; up and down leave it. 14 where
 // there are not 411 words or no place.
+#[tactic(auto, using(crate::proofs::Shown::gate_wrong, crate::proofs::Shown::gate_few, crate::proofs::Shown::gate_there, crate::proofs::Shown::angle_up, crate::proofs::Shown::angle_down, crate::proofs::Shown::angle_falling, crate::proofs::Shown::angle_rising))]
 pub fn bench_gate(words: &[u32], angle: &mut [f32]) -> u64
     ensures { showed result angle.new ≡ gate_shown words.now angle.old }
 {
