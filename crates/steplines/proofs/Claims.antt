@@ -1,5 +1,5 @@
 -- The claims on fields, angles and lines hold. Assumes nothing.
-use Prim.Native.Nat.{ℕ, suc, ◌+◌, ◌*◌, ◌/◌, ◌%◌, ◌^◌, ◌≤◌, ◌<◌}
+use Prim.Native.Nat.{ℕ, suc, ◌*◌, ◌/◌, ◌%◌, ◌^◌, ◌≤◌, ◌<◌}
 use native.Mathlib.Omega.{arith}
 use native.Mathlib.Nat.{div-add-mod', mul-mod_left, mul-div_cancel, one-le-pow}
 use mathlib.Core.Path.{◌≡◌, refl, sym, ap, ◌∙◌}

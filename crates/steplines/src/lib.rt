@@ -1,4 +1,6 @@
 // What a line of the input of `gate bench` means: settings, a step, nothing, or wrong. A reading goes exactly to 64ths of a degree, with no float between.
+#![tactic(auto)]
+
 ghost use Rattle.std.specs.Prelude.{◌≡◌, true, ◌∷◌, [], ◌+◌, ◌-◌, ◌*◌, ◌≤◌, length, drop};
 ghost use Rattle.runs.specs.Letters.{letter_of};
 ghost use Rattle.steplines.specs.Fields.{is_blank, fields, begins, is_word};
@@ -11,7 +13,7 @@ use runs::{Letter, Step};
 use settings::Settings;
 
 // What a line of the input means.
-#[derive(Drop)]
+#[derive(Clone, Copy)]
 pub enum Meaning {
     // an empty line or a comment
     Skip,
@@ -28,7 +30,7 @@ const LONGEST: usize = 1000;
 const LARGEST: u32 = 999999999;
 
 // The place of a field in a line.
-#[derive(Drop)]
+#[derive(Clone, Copy)]
 struct Field {
     from: usize,
     end: usize,
@@ -50,6 +52,7 @@ fn belongs(blank: bool, b: u8) -> bool
 }
 
 // Where the run from `at` on ends.
+#[tactic(auto, using(crate::proofs::Fields::run_past, crate::proofs::Fields::run_more, crate::proofs::Fields::run_stop))]
 fn run_end(line: &[u8], at: usize, blank: bool) -> usize
     ensures { result ≡ at + run_of blank (drop at line.now) }
 {
@@ -107,6 +110,7 @@ fn is_digit(b: u8) -> bool
     (b'0' <= b) & (b <= b'9')
 }
 
+#[tactic(auto, using(crate::proofs::Numbers::digits_past, crate::proofs::Numbers::digits_more, crate::proofs::Numbers::digits_stop))]
 fn all_digits(bytes: &[u8]) -> bool
     ensures { result ≡ all_digits bytes.now }
 {
@@ -150,6 +154,7 @@ fn with_digit(n: u32, b: u8) -> u32
     }
 }
 
+#[tactic(auto, using(crate::proofs::Numbers::smaller_most, crate::proofs::Numbers::number_next, crate::proofs::Numbers::number_past))]
 fn number_of(digits: &[u8]) -> u32
     ensures { result ≡ number_of digits.now }
 {
@@ -165,6 +170,7 @@ fn number_of(digits: &[u8]) -> u32
 // ---- readings
 
 // Where the first point stands, or where the bytes end.
+#[tactic(auto, using(crate::proofs::Numbers::point_past, crate::proofs::Numbers::point_more, crate::proofs::Numbers::point_stop))]
 fn point_at(bytes: &[u8]) -> usize
     ensures { result ≡ length (whole_of bytes.now) }
 {
@@ -192,6 +198,7 @@ fn with_decimal(x: u64, decimals: &[u8], i: usize) -> u64
 }
 
 // A number with six decimals after it.
+#[tactic(auto, unfolding(crate::specs::Walk::with_decimals))]
 fn with_six(whole: u32, decimals: &[u8]) -> u64
     requires { whole ≤ largest }
     ensures { result ≡ with_decimals whole decimals.now 6 }
@@ -205,6 +212,7 @@ fn with_six(whole: u32, decimals: &[u8]) -> u64
 }
 
 // What the decimals after the sixth count; 0 where they are all 0.
+#[tactic(auto, using(crate::proofs::Numbers::part_rest), unfolding(crate::specs::Numbers::value_from))]
 fn after_six(decimals: &[u8]) -> u32
     ensures { result ≡ number_of (drop 6 decimals.now) }
 {
@@ -234,6 +242,7 @@ fn by_six(minus: bool, after: u32, x: u64) -> Reading
     }
 }
 
+#[tactic(auto, using(crate::proofs::Numbers::smaller_most, crate::proofs::Readings::reading_six))]
 fn angle_in(minus: bool, whole: &[u8], decimals: &[u8]) -> Reading
     requires { all_digits decimals.now ≡ true }
     ensures { result ≡ angle_in minus whole.now decimals.now }
@@ -257,6 +266,7 @@ fn degrees_of(reading: Reading) -> f32
 
 // ---- a step
 
+#[tactic(auto, using(crate::proofs::Lines::clock_digits, crate::proofs::Lines::clock_read_law, crate::proofs::Lines::clock_wrong))]
 fn clock_with(minus: bool, whole: &[u8], decimals: &[u8]) -> Meaning
     ensures { result ≡ clock_with minus whole.now decimals.now }
 {
@@ -268,6 +278,7 @@ fn clock_with(minus: bool, whole: &[u8], decimals: &[u8]) -> Meaning
     }
 }
 
+#[tactic(auto, using(crate::proofs::Numbers::part_rest, crate::proofs::Lines::whole_within, crate::proofs::Lines::clock_point, crate::proofs::Lines::clock_whole))]
 fn clock_from(minus: bool, bytes: &[u8]) -> Meaning
     ensures { result ≡ clock_with minus (whole_of bytes.now) (decimals_of bytes.now) }
 {
@@ -328,6 +339,7 @@ fn step_of(letter: u8, line: &[u8], at: usize) -> Meaning
 
 // ---- settings
 
+#[tactic(auto, unfolding(crate::specs::StepLine::start_with))]
 fn start_with(count: usize, s: Settings) -> Meaning
     ensures { result ≡ start_with count s }
 {
