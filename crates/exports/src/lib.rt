@@ -1,4 +1,6 @@
 // The static library: what C or Rust programs call, over numbers and lent slices.
+#![tactic(auto)]
+
 ghost use Rattle.std.specs.Prelude.{◌≡◌, ◌≤◌, length};
 ghost use Rattle.settings.specs.Values.{settings_of};
 ghost use Rattle.runs.specs.declared.Feed.TheVariants.{ToBench};
