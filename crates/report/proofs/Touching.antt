@@ -3,7 +3,7 @@
 use Prim.Native.Nat.{ℕ, ◌+◌, ◌≤◌}
 use native.Mathlib.Omega.{arith}
 use mathlib.Core.Path.{◌≡◌, refl, sym, ap, ◌∙◌}
-use mathlib.Core.Bool.{Bool, true, false, cond, ◌&&◌, ◌||◌, and-false, or_assoc, or-true, or_false}
+use mathlib.Core.Bool.{Bool, true, false, cond, ◌&&◌, ◌||◌, and-false, or_assoc, or-true, or-false}
 use mathlib.Core.List.{List, [], ◌∷◌, ◌++◌}
 use lib.Dec.{leb, eqb}
 use borrow.Author.Tests.{leb-true, le-leb, lt-leb, eqb-true, eqb-false, eq-eqb}
@@ -45,7 +45,7 @@ module _ (n a : ℕ) where
       where
         go : (x : Bool) → eqb c n ≡ x → between n n a c ≡ (between n n a b || x)
         go true e = let i = eqb-true c n e in rw (le-leb a n (omega arith), le-leb n c (omega arith)) (sym (or-true (leb n b)))
-        go false e = let i = eqb-false c n e in ap (λ (x : Bool). leb a n && x) (reach_same n b c q (λ l. omega arith)) ∙ sym (or_false (between n n a b))
+        go false e = let i = eqb-false c n e in ap (λ (x : Bool). leb a n && x) (reach_same n b c q (λ l. omega arith)) ∙ sym (or-false (between n n a b))
 
     between_tick : between n (n + 1) a c ≡ (between n (n + 1) a b || (eqb b n && eqb c (n + 1)))
     between_tick = go (eqb b n) refl
@@ -58,7 +58,7 @@ module _ (n a : ℕ) where
             (λ l. le-leb (n + 1) c (omega (arith, eqb-true c (n + 1) l))))
         go false e =
             let i = eqb-false b n e in
-            ap (λ (x : Bool). leb a n && x) (reach_same (n + 1) b c q (λ l. omega arith)) ∙ sym (or_false (between n (n + 1) a b))
+            ap (λ (x : Bool). leb a n && x) (reach_same (n + 1) b c q (λ l. omega arith)) ∙ sym (or-false (between n (n + 1) a b))
 
 -- ---- off the moments
 

@@ -1,5 +1,7 @@
 // The report of a record: the stretches of its accepted text, one by one off the text, those with a train inside joined where they touch,
 // merged and written into a lent buffer.
+#![tactic(auto)]
+
 ghost use Rattle.std.specs.Prelude.{◌≡◌, ◌+◌, ◌*◌, ◌<◌, ◌≤◌, cond, length};
 ghost use Rattle.settings.specs.declared.Verdict.TheVariants.{Taken};
 ghost use Rattle.lines.specs.Bytes.{splice};
@@ -15,7 +17,7 @@ use settings::Verdict;
 use stretches::{Next, Stretch};
 
 // Whether the report was written, and how many bytes it has; 14 at line 0 where they do not fit.
-#[derive(Drop)]
+#[derive(Clone, Copy)]
 pub struct Reported {
     pub verdict: Verdict,
     pub line: usize,
@@ -23,6 +25,7 @@ pub struct Reported {
 }
 
 // A report line from `at` on.
+#[tactic(auto, using(crate::proofs::Rows::row_written))]
 fn write_row(out: &mut [u8], at: usize, n: u32, m: u32, letter: u8)
     requires { (at + 19 ≤ length out.old) × (n < 100000000) × (m < 100000000) }
     ensures { out.new ≡ splice out.old at (report_line n m letter) }
@@ -52,7 +55,7 @@ fn write_stretch(out: &mut [u8], at: usize, capital: u8, x: Stretch)
 }
 
 // A stretch with some train inside, all that touch it joined to it, and the answer after it.
-#[derive(Drop)]
+#[derive(Clone, Copy)]
 struct Joined {
     stretch: Stretch,
     next: Next,
@@ -77,6 +80,7 @@ fn join(x: Stretch, y: Stretch) -> Stretch
 }
 
 // The O stretch found, joined with each that touches what is joined so far.
+#[tactic(auto, using(crate::proofs::Joining::joining_start, crate::proofs::Joining::joining_next, crate::proofs::Joining::joining_less, crate::proofs::Joining::joining_end))]
 fn join_from(text: &[u8], o: Next) -> Joined
     requires { Found text.now o }
     ensures { JoinsFrom text.now o result }
@@ -189,6 +193,7 @@ fn report_refusal(number: u8, line: usize, out: &mut [u8]) -> Reported
 }
 
 // The report of a record text of any bytes, into a lent buffer: as many bytes as its lines have are written, or none where they do not fit.
+#[tactic(auto, using(crate::proofs::Answers::written_as, crate::proofs::Texts::taken_says, crate::proofs::Texts::taken_report, crate::proofs::Texts::refused_report, crate::proofs::Texts::line_within, crate::proofs::Texts::long_report))]
 pub fn report(text: &[u8], out: &mut [u8]) -> Reported
     ensures { ReportWritten (report_of text.now) out.old result out.new }
 {
