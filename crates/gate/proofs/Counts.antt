@@ -1,6 +1,6 @@
 -- Laws of counts: so many bytes are at a buffer's start, and no text is longer than the program's buffers. Assumes nothing.
 use Rattle.std.proofs.Common.{◌≡◌, ℕ, ◌+◌, ◌-◌, ◌*◌, ◌/◌, ◌≤◌, Bool, true, false, cond, eqb, leb, List, [], length, sym, refl, ap, ◌∙◌, subst, arith, length-append, length-drop, length-take, le-leb, leb-true}
-use Rattle.io.specs.Counts.{IsPrefixLen}
+use Rattle.gate.specs.Held.{IsPrefixLen}
 use Rattle.settings.specs.declared.Verdict.{Verdict}
 use Rattle.settings.specs.declared.Verdict.TheVariants.{Taken, Refused}
 use Rattle.lines.specs.declared.Layout.{Layout}

@@ -1,11 +1,14 @@
 -- What the program writes, at the start of a buffer that has space for it. Assumes nothing.
-use Rattle.std.specs.Prelude.{◌≡◌, ℕ, cond, List, length}
-use Rattle.io.specs.Counts.{IsPrefixLen}
+use Rattle.std.specs.Prelude.{◌≡◌, ℕ, ◌≤◌, cond, List, length, take}
 use Rattle.lines.specs.declared.Layout.{Layout}
 use Rattle.lines.specs.declared.Layout.TheVariants.{Old, New}
 use Rattle.lines.specs.Bytes.{splice}
 use Rattle.converter.specs.declared.Converted.{Converted}
 use Rattle.converter.specs.Convert.{other_text, converted, is_taken}
+
+-- `&xs[..n]` is in bounds and has n bytes
+abbrev pub IsPrefixLen : ℕ → List ℕ → Type 0
+IsPrefixLen n xs = (n ≤ length xs) × (n ≡ length (take n xs))
 
 -- a report: the n bytes of its lines from the buffer's first byte on, and every other byte as it was
 pub record Held (n : ℕ) (lines before after : List ℕ) : Type 0 where

@@ -1,14 +1,15 @@
 // `gate bench`: lines of settings and steps as they come, the record's lines as they are made, refusals on standard error. What a line gives is
 // `live`'s; here lines are gathered from reads, and what they give is written before the next read, and before a refusal is said.
 ghost use Rattle.std.specs.Prelude.{◌≡◌, ◌+◌, ◌≤◌, length};
-ghost use Rattle.io.specs.Counts.{IsPrefixLen};
+ghost use Rattle.gate.specs.Held.{IsPrefixLen};
 
-use crate::words::{put_out, say_refusal};
-use libc::STDIN_FILENO;
+use crate::words::{put_out, say_failure, say_refusal};
+use crate::zeros;
 use live::{Given, Live};
+use std::io::{Input, Read};
 
 // The bytes held of the present line, the bytes that are to go out, the lines ended, whether one was refused, and whether a write failed.
-#[derive(Drop)]
+#[derive(Clone, Copy)]
 struct Tally {
     held: usize,
     pending: usize,
@@ -18,13 +19,14 @@ struct Tally {
 }
 
 // The bench beside it.
-#[derive(Drop)]
+#[derive(Clone, Copy)]
 struct Desk {
     live: Live,
     tally: Tally,
 }
 
 // What a line gives, within its buffer.
+#[tactic(auto, using(crate::proofs::Counts::given_held, live::proofs::Taking::line_few))]
 fn give_line(live: Live, line: &[u8], out: &mut [u8]) -> Given
     ensures { IsPrefixLen result.bytes out.new }
 {
@@ -32,46 +34,46 @@ fn give_line(live: Live, line: &[u8], out: &mut [u8]) -> Given
 }
 
 // And the end of the input.
+#[tactic(auto, using(crate::proofs::Counts::given_held, live::proofs::Taking::end_few))]
 fn give_last(live: Live, out: &mut [u8]) -> Given
     ensures { IsPrefixLen result.bytes out.new }
 {
     live::finish(live, out)
 }
 
-// Zeros for what is to go out.
-fn window_buffer() -> [u8; 8192]
-    ensures { 8192 ≡ length result }
-{
-    [0; 8192]
-}
-
 // What is to go out is written.
-fn flush(tally: Tally, window: &[u8]) -> Tally
+fn flush<R: Print + Eprint + AllocGlobal>(rt: &R, tally: Tally, window: &[u8]) -> Tally
     ensures { result.pending ≡ 0 }
 {
     let n = tally.pending;
     let mut t = tally;
     t.pending = 0;
     if n <= window.len() {
-        t.failed = !put_out(&window[..n]);
+        t.failed = !put_out(rt, &window[..n]);
         return t;
     }
     t
 }
 
 // Space for the longest lines that go out at once: the record's head and its last line.
-fn make_room(tally: Tally, window: &[u8]) -> Tally
+fn make_room<R: Print + Eprint + AllocGlobal>(rt: &R, tally: Tally, window: &[u8]) -> Tally
     requires { 240 ≤ length window.now }
     ensures { result.pending + 240 ≤ length window.now }
 {
     if tally.pending <= window.len() - 240 {
         return tally;
     }
-    flush(tally, window)
+    flush(rt, tally, window)
 }
 
 // A line that was answered with this number, and with so many bytes that are to go out; a refusal is said.
-fn note_line(tally: Tally, number: u8, bytes: usize, window: &[u8]) -> Tally {
+fn note_line<R: Print + Eprint + AllocGlobal>(
+    rt: &R,
+    tally: Tally,
+    number: u8,
+    bytes: usize,
+    window: &[u8],
+) -> Tally {
     let mut t = tally;
     t.held = 0;
     t.lines = std::num::wrapping_add_u64(tally.lines, 1);
@@ -79,26 +81,32 @@ fn note_line(tally: Tally, number: u8, bytes: usize, window: &[u8]) -> Tally {
     if number == 0 {
         return t;
     }
-    t = flush(t, window);
+    t = flush(rt, t, window);
     say_refusal(
+        rt,
         t.lines,
         number,
-        b"no settings and no step, or not in its place",
+        "no settings and no step, or not in its place",
     );
     t.refused = true;
     t
 }
 
 // A line has ended: its lines of the record are to go out, or its refusal is said.
-fn take_line(desk: Desk, line: &[u8], window: &mut [u8]) -> Desk
+fn take_line<R: Print + Eprint + AllocGlobal>(
+    rt: &R,
+    desk: Desk,
+    line: &[u8],
+    window: &mut [u8],
+) -> Desk
     requires { 240 ≤ length window.old }
 {
     let before = desk.live;
-    let t = make_room(desk.tally, window);
+    let t = make_room(rt, desk.tally, window);
     let at = t.pending;
     let g = give_line(before, line, &mut window[at..]);
     let after = g.live;
-    let noted = note_line(t, g.number, g.bytes, window);
+    let noted = note_line(rt, t, g.number, g.bytes, window);
     Desk {
         live: after,
         tally: noted,
@@ -106,7 +114,13 @@ fn take_line(desk: Desk, line: &[u8], window: &mut [u8]) -> Desk
 }
 
 // The line that is held, where it has ended.
-fn end_line(desk: Desk, line: &[u8], ended: bool, window: &mut [u8]) -> Desk
+fn end_line<R: Print + Eprint + AllocGlobal>(
+    rt: &R,
+    desk: Desk,
+    line: &[u8],
+    ended: bool,
+    window: &mut [u8],
+) -> Desk
     requires { 240 ≤ length window.old }
 {
     let n = desk.tally.held;
@@ -114,7 +128,7 @@ fn end_line(desk: Desk, line: &[u8], ended: bool, window: &mut [u8]) -> Desk
         return desk;
     }
     if n <= line.len() {
-        return take_line(desk, &line[..n], window);
+        return take_line(rt, desk, &line[..n], window);
     }
     desk
 }
@@ -150,7 +164,13 @@ fn hold(line: &mut [u8], held: usize, bytes: &[u8]) -> usize {
 }
 
 // The bytes of a read: lines of any length, of which so much is held that their meaning shows. All that they give is written.
-fn take_bytes(desk: Desk, bytes: &[u8], line: &mut [u8], window: &mut [u8]) -> Desk
+fn take_bytes<R: Print + Eprint + AllocGlobal>(
+    rt: &R,
+    desk: Desk,
+    bytes: &[u8],
+    line: &mut [u8],
+    window: &mut [u8],
+) -> Desk
     requires { 240 ≤ length window.old }
 {
     let mut d = desk;
@@ -160,28 +180,33 @@ fn take_bytes(desk: Desk, bytes: &[u8], line: &mut [u8], window: &mut [u8]) -> D
         let held = hold(line, d.tally.held, &bytes[i..e]);
         d.tally.held = held;
         i = e + 1;
-        d = end_line(d, line, e < bytes.len(), window);
+        d = end_line(rt, d, line, e < bytes.len(), window);
         if d.tally.failed {
             return d;
         }
     }
-    let t = flush(d.tally, window);
+    let t = flush(rt, d.tally, window);
     d.tally = t;
     d
 }
 
 // The end of the input: a line without its byte 10 is taken, then the record's last line goes out. The status.
-fn end_input(desk: Desk, line: &[u8], window: &mut [u8]) -> u8
+fn end_input<R: Print + Eprint + AllocGlobal>(
+    rt: &R,
+    desk: Desk,
+    line: &[u8],
+    window: &mut [u8],
+) -> u8
     requires { 240 ≤ length window.old }
     ensures { result ≤ 2 }
 {
-    let d = end_line(desk, line, 0 < desk.tally.held, window);
+    let d = end_line(rt, desk, line, 0 < desk.tally.held, window);
     let last = d.live;
-    let mut t = make_room(d.tally, window);
+    let mut t = make_room(rt, d.tally, window);
     let at = t.pending;
     let g = give_last(last, &mut window[at..]);
     t.pending = std::num::wrapping_add_usize(at, g.bytes);
-    t = flush(t, window);
+    t = flush(rt, t, window);
     if t.failed {
         return 2;
     }
@@ -189,7 +214,7 @@ fn end_input(desk: Desk, line: &[u8], window: &mut [u8]) -> u8
 }
 
 // Standard input, read as it comes. The status: which one is the operating system's and the input's to decide.
-pub(crate) fn bench_input() -> u8
+pub(crate) fn bench_input<R: Input + Print + Eprint + AllocGlobal>(rt: &R) -> u8
     ensures { result ≤ 2 }
 {
     let fresh = live::fresh();
@@ -204,24 +229,23 @@ pub(crate) fn bench_input() -> u8
         },
     };
     let mut line = [0u8; 1001];
-    let mut window = window_buffer();
-    let mut turns = u64::MAX;
-    while turns > 0 {
-        let mut chunk = io::buffer();
-        let got = libc::read(STDIN_FILENO, &mut chunk);
-        if got < 0 {
-            os::fail(b"gate: standard input");
-            return 2;
+    let mut window = zeros::<8192>();
+    let mut input = rt.reader();
+    for _ in 0..u64::MAX {
+        let mut chunk = [0u8; 4096];
+        match input.read(&mut chunk) {
+            Err(e) => {
+                say_failure(rt, "standard input", e);
+                return 2;
+            }
+            Ok(0) => return end_input(rt, desk, &line, &mut window),
+            Ok(n) => {
+                desk = take_bytes(rt, desk, &chunk[..n], &mut line, &mut window);
+            }
         }
-        let n = io::count(got, &chunk);
-        if n == 0 {
-            return end_input(desk, &line, &mut window);
-        }
-        desk = take_bytes(desk, &chunk[..n], &mut line, &mut window);
         if desk.tally.failed {
             return 2;
         }
-        turns = turns - 1;
     }
     2
 }

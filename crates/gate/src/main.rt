@@ -1,31 +1,31 @@
 // The program, standard input to standard output: `gate bench` runs a bench live, `gate report` writes a record's report, `gate to-new` and
 // `gate to-old` the record in the other form. Its status is 0; 1 where a text or a step was refused; 2 where it was called wrongly or could not
-// read or write. A program has no exit status here: with `status-on-3` before the word it writes the digit to descriptor 3 at its end.
+// read or write. With `status-on-3` before the word it writes the status's digit to descriptor 3 too, at its end.
+#![tactic(auto)]
+
 mod keyboard;
 mod words;
 
-ghost use Rattle.std.specs.Prelude.{◌≡◌, ◌≤◌, length};
-ghost use Rattle.io.specs.Counts.{IsPrefixLen};
+ghost use Rattle.std.specs.Prelude.{◌≡◌, ◌≤◌, ◌<◌, length};
+ghost use Rattle.std.specs.Io.{ReadsAtMost};
 ghost use Rattle.report.specs.Report.{report_of};
 ghost use Rattle.gate.specs.Word.{task_of};
 ghost use Rattle.gate.specs.Held.{Held, Turned};
 
 use converter::Converted;
-use libc::STDIN_FILENO;
 use lines::Layout;
 use settings::Verdict;
+use std::env::FillError;
+use std::fs::OpenOptions;
+use std::io;
+use std::io::{Input, Read, Write};
+use std::process::ExitCode;
+use std::rt::{Env, Files};
 use steplines::is_word;
-use words::{put_out, say, say_refusal};
-
-// What was read of the input, and whether a read failed.
-#[derive(Drop)]
-struct Input {
-    bytes: usize,
-    failed: bool,
-}
+use words::{put_out, say_failure, say_refusal};
 
 // What the command line asks for.
-#[derive(Drop)]
+#[derive(Clone, Copy)]
 enum Task {
     Bench,
     Report,
@@ -35,38 +35,25 @@ enum Task {
 }
 
 // What the command line asks for, and whether the status is to be told.
-#[derive(Drop)]
+#[derive(Clone, Copy)]
 struct Call {
     task: Task,
     tells: bool,
 }
 
-// Reads standard input to its end, or until the buffer is full or a read fails.
-fn read_input(buf: &mut [u8]) -> Input
-    ensures { IsPrefixLen result.bytes buf.new }
+// Reads to the end of the input, or until the buffer is full: how many bytes.
+fn read_input<I: Read>(input: &mut I, buf: &mut [u8]) -> io::Result<usize>
+    ensures { ReadsAtMost result buf.new }
 {
     let mut n: usize = 0;
     while n < buf.len() {
-        let got = libc::read(STDIN_FILENO, &mut buf[n..]);
-        if got < 0 {
-            return Input {
-                bytes: n,
-                failed: true,
-            };
-        }
-        let more = io::count(got, &buf[n..]);
+        let more = input.read(&mut buf[n..])?;
         if more == 0 {
-            return Input {
-                bytes: n,
-                failed: false,
-            };
+            return Ok(n);
         }
         n = n + more;
     }
-    Input {
-        bytes: n,
-        failed: false,
-    }
+    Ok(n)
 }
 
 // What a word of the command line asks for.
@@ -86,36 +73,46 @@ fn task_of(word: &[u8]) -> Task
     }
 }
 
-// What word i of the command line asks for, where there are so many.
-fn task_at(i: usize, words: usize) -> Task {
-    let mut word = io::buffer();
-    let n = os::arg(i, &mut word);
-    let task = task_of(&word[..n]);
-    if os::arg_count() == words {
-        task
-    } else {
-        Task::Usage
+// What word i of the command line asks for, where no other is behind it. One that is no text, or longer than the buffer, is no word of the program's.
+fn task_at<R: Env>(rt: &R, i: usize) -> Task
+    requires { i < 3 }
+{
+    let mut word = [0u8; 4096];
+    let Err(FillError::NotPresent) = rt.arg(i + 1, &mut word) else {
+        return Task::Usage;
+    };
+    match rt.arg(i, &mut word) {
+        Ok(n) => task_of(&word[..n]),
+        Err(_) => Task::Usage,
     }
 }
 
 // What the command line asks for: one word, or `status-on-3` and one.
-fn asked() -> Call {
-    let mut word = io::buffer();
-    let n = os::arg(1, &mut word);
-    if is_word(b"status-on-3", &word[..n]) {
-        Call {
-            task: task_at(2, 3),
-            tells: true,
-        }
-    } else {
-        Call {
-            task: task_at(1, 2),
-            tells: false,
-        }
+fn asked<R: Env>(rt: &R) -> Call {
+    let mut word = [0u8; 4096];
+    let tells = match rt.arg(1, &mut word) {
+        Ok(n) => is_word(b"status-on-3", &word[..n]),
+        Err(_) => false,
+    };
+    let i = if tells { 2 } else { 1 };
+    Call {
+        task: task_at(rt, i),
+        tells,
+    }
+}
+
+// The status's digit on descriptor 3, where the caller has it open.
+fn tell<R: Files>(rt: &R, status: u8)
+where
+    R::File: Drop,
+{
+    if let Ok(mut told) = OpenOptions::new().append(true).open(rt, "/dev/fd/3") {
+        let _ = write!(told, "{status}");
     }
 }
 
 // The report of a text, at the start of a buffer that holds every report, its other bytes as they were: how many bytes the report has.
+#[tactic(auto, using(crate::proofs::Counts::report_held, report::proofs::Bounds::report_few))]
 fn make_report(text: &[u8], out: &mut [u8]) -> usize
     requires { 156000 ≤ length out.old }
     ensures { Held result (report_of text.now) out.old out.new }
@@ -134,28 +131,33 @@ fn is_refusal(report: &[u8]) -> bool {
 }
 
 // The report of a text, on standard output: the status.
-fn write_report(text: &[u8]) -> u8 {
-    let mut out = [0u8; 156000];
+fn write_report<R: Print + Eprint + AllocGlobal>(rt: &R, text: &[u8]) -> u8
+    ensures { result ≤ 2 }
+{
+    let mut out = zeros::<156000>();
     let n = make_report(text, &mut out);
-    if !put_out(&out[..n]) {
+    if !put_out(rt, &out[..n]) {
         return 2;
     }
     if is_refusal(&out[..n]) { 1 } else { 0 }
 }
 
 // The report of standard input. One byte above the report's limit is enough to know that a text is too long.
-fn report_input() -> u8 {
-    let mut text = io::large_buffer();
-    let input = read_input(&mut text);
-    let n = input.bytes;
-    if input.failed {
-        os::fail(b"gate: standard input");
-        return 2;
+fn report_input<R: Input + Print + Eprint + AllocGlobal>(rt: &R) -> u8
+    ensures { result ≤ 2 }
+{
+    let mut text = zeros::<65536>();
+    match read_input(&mut rt.reader(), &mut text) {
+        Ok(n) => write_report(rt, &text[..n]),
+        Err(e) => {
+            say_failure(rt, "standard input", e);
+            2
+        }
     }
-    write_report(&text[..n])
 }
 
 // A text of the form `f` in the other form, at the start of a buffer that holds it whole, its other bytes as they were.
+#[tactic(auto, using(crate::proofs::Counts::turned_held))]
 fn make_text(f: Layout, text: &[u8], out: &mut [u8]) -> Converted
     requires { (length text.now ≤ 1000000) × (1066800 ≤ length out.old) }
     ensures { Turned f text.now result out.old out.new }
@@ -166,34 +168,30 @@ fn make_text(f: Layout, text: &[u8], out: &mut [u8]) -> Converted
     }
 }
 
-// Zeros for a text of at most 1,000,000 bytes and one byte more, and for what it is turned into.
-fn text_buffer() -> [u8; 1000001]
-    ensures { 1000001 ≡ length result }
+// So many zeros.
+pub(crate) fn zeros<const N: usize>() -> [u8; N]
+    ensures { N ≡ length result }
 {
-    [0; 1000001]
-}
-
-fn turned_buffer() -> [u8; 1066800]
-    ensures { 1066800 ≡ length result }
-{
-    [0; 1066800]
+    [0; N]
 }
 
 // A text of the form `f` in the other form, on standard output; a refusal on standard error: the status.
-fn write_text(f: Layout, text: &[u8]) -> u8
+fn write_text<R: Print + Eprint + AllocGlobal>(rt: &R, f: Layout, text: &[u8]) -> u8
     requires { length text.now ≤ 1000000 }
+    ensures { result ≤ 2 }
 {
-    let mut out = turned_buffer();
+    let mut out = zeros::<1066800>();
     let c = make_text(f, text, &mut out);
     let v = c.verdict;
     let n = c.bytes;
     match v {
-        Verdict::Taken => { if put_out(&out[..n]) { 0 } else { 2 } }
+        Verdict::Taken => { if put_out(rt, &out[..n]) { 0 } else { 2 } }
         Verdict::Refused(k) => {
             say_refusal(
+                rt,
                 c.line as u64,
                 k,
-                b"the line is not in the columns, is missing, or follows the last",
+                "the line is not in the columns, is missing, or follows the last",
             );
             1
         }
@@ -201,44 +199,55 @@ fn write_text(f: Layout, text: &[u8]) -> u8
 }
 
 // Standard input in the other form. One byte above the limit is enough to know that a text is too long.
-fn convert_input(f: Layout) -> u8 {
-    let mut text = text_buffer();
-    let input = read_input(&mut text);
-    let n = input.bytes;
-    if input.failed {
-        os::fail(b"gate: standard input");
-        return 2;
-    }
+fn convert_input<R: Input + Print + Eprint + AllocGlobal>(rt: &R, f: Layout) -> u8
+    ensures { result ≤ 2 }
+{
+    let mut text = zeros::<1000001>();
+    let n = match read_input(&mut rt.reader(), &mut text) {
+        Ok(n) => n,
+        Err(e) => {
+            say_failure(rt, "standard input", e);
+            return 2;
+        }
+    };
     if 1000000 < n {
-        say(b"gate: the record is longer than 1,000,000 bytes\n");
+        let _ = eprintln!(rt; "gate: the record is longer than 1,000,000 bytes");
         return 2;
     }
-    write_text(f, &text[..n])
+    write_text(rt, f, &text[..n])
 }
 
+const USAGE: &str = "usage: gate WORD < INPUT > OUTPUT
+bench: runs a bench, settings and steps in, the lines of its record out as they are made
+report: the report of a record
+to-new: a record of 14 columns in 15 columns
+to-old: a record of 15 columns in 14 columns";
+
 // How the program is used.
-fn usage() -> u8 {
-    say(
-        b"usage: gate WORD < INPUT > OUTPUT\nbench: runs a bench, settings and steps in, the lines of its record out as they are made\nreport: the report of a record\nto-new: a record of 14 columns in 15 columns\nto-old: a record of 15 columns in 14 columns\n",
-    );
+fn usage<R: Eprint>(rt: &R) -> u8
+    ensures { result ≤ 2 }
+{
+    let _ = eprintln!(rt; "{USAGE}");
     2
 }
 
-fn run(task: Task) -> u8 {
+fn run<R: Input + Print + Eprint + AllocGlobal>(rt: &R, task: Task) -> u8
+    ensures { result ≤ 2 }
+{
     match task {
-        Task::Bench => keyboard::bench_input(),
-        Task::Report => report_input(),
-        Task::ToNew => convert_input(Layout::Old),
-        Task::ToOld => convert_input(Layout::New),
-        Task::Usage => usage(),
+        Task::Bench => keyboard::bench_input(rt),
+        Task::Report => report_input(rt),
+        Task::ToNew => convert_input(rt, Layout::Old),
+        Task::ToOld => convert_input(rt, Layout::New),
+        Task::Usage => usage(rt),
     }
 }
 
-fn main() {
-    let call = asked();
-    let task = call.task;
-    let status = run(task);
+fn main(rt: HostRuntime) -> ExitCode {
+    let call = asked(&rt);
+    let status = run(&rt, call.task);
     if call.tells {
-        io::print_decimal(3, status as u64);
+        tell(&rt, status);
     }
+    ExitCode::from(status)
 }

@@ -1,50 +1,62 @@
-// What the program writes: bytes on standard output, refusals in words on standard error.
-use libc::{STDERR_FILENO, STDOUT_FILENO};
+// What the program says: bytes on standard output, refusals and failures in words on standard error.
+use std::io;
 
 // On standard output; whether it was written.
-pub(crate) fn put_out(bytes: &[u8]) -> bool {
-    if io::write_all(STDOUT_FILENO, bytes) {
-        return true;
+pub(crate) fn put_out<R: Print + Eprint + AllocGlobal>(rt: &R, bytes: &[u8]) -> bool {
+    match rt.write_all(bytes) {
+        Ok(()) => true,
+        Err(e) => {
+            say_failure(rt, "standard output", e);
+            false
+        }
     }
-    os::fail(b"gate: standard output");
-    false
 }
 
-pub(crate) fn say(words: &[u8]) {
-    io::write_all(STDERR_FILENO, words);
+// A message of the system without its number.
+fn without_number(message: &str) -> &str {
+    match message.split_once(" (os error ") {
+        Some((words, _)) => words,
+        None => message,
+    }
 }
 
-// A refusal; what 15 means is the caller's to say.
-fn say_reason(number: u8, format: &[u8]) {
+// A read or a write that failed, in the system's words.
+pub(crate) fn say_failure<R: Eprint + AllocGlobal>(rt: &R, what: &str, e: io::Error) {
+    let _ = match format!(in rt.alloc(); "{e}") {
+        Ok(message) => {
+            let words = without_number(message.as_str());
+            eprintln!(rt; "gate: {what}: {words}")
+        }
+        Err(_) => eprintln!(rt; "gate: {what}"),
+    };
+}
+
+// A refusal in words; what 15 means is the caller's to say.
+fn reason(number: u8, format: &'static str) -> &'static str {
     match number {
-        1 => say(b"a setting is outside its range"),
-        2 => say(b"an earliest time is not above the ticks of a fall"),
-        3 => say(b"the ahead margin is too small"),
-        4 => say(b"the behind margin is too small"),
-        5 => say(b"there is no such train number"),
-        6 => say(b"an approach of a train that is not away"),
-        7 => say(b"an occupy of a train that is not coming"),
-        8 => say(b"an occupy before the train's earliest time"),
-        9 => say(b"a leave of a train that is not inside"),
-        10 => say(b"the clock is at its end"),
-        11 => say(b"a coming train is at its latest"),
-        12 => say(b"not an allowed reading"),
-        13 => say(b"the arm breaks the movement rule"),
-        15 => say(format),
-        16 => say(b"not the instant or the command that the recorder would put there"),
-        17 => say(b"96 trains are present"),
-        18 => say(b"the old form cannot hold this line"),
-        _ => say(b"the text does not fit"),
+        1 => "a setting is outside its range",
+        2 => "an earliest time is not above the ticks of a fall",
+        3 => "the ahead margin is too small",
+        4 => "the behind margin is too small",
+        5 => "there is no such train number",
+        6 => "an approach of a train that is not away",
+        7 => "an occupy of a train that is not coming",
+        8 => "an occupy before the train's earliest time",
+        9 => "a leave of a train that is not inside",
+        10 => "the clock is at its end",
+        11 => "a coming train is at its latest",
+        12 => "not an allowed reading",
+        13 => "the arm breaks the movement rule",
+        15 => format,
+        16 => "not the instant or the command that the recorder would put there",
+        17 => "96 trains are present",
+        18 => "the old form cannot hold this line",
+        _ => "the text does not fit",
     }
 }
 
 // The line, the number and the words of a refusal.
-pub(crate) fn say_refusal(line: u64, number: u8, format: &[u8]) {
-    say(b"line ");
-    io::print_decimal(STDERR_FILENO, line);
-    say(b": refused ");
-    io::print_decimal(STDERR_FILENO, number as u64);
-    say(b": ");
-    say_reason(number, format);
-    say(b"\n");
+pub(crate) fn say_refusal<R: Eprint>(rt: &R, line: u64, number: u8, format: &'static str) {
+    let words = reason(number, format);
+    let _ = eprintln!(rt; "line {line}: refused {number}: {words}");
 }
