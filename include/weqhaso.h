@@ -4,7 +4,7 @@
  * for a whole list of steps or a whole text.
  *
  * Memory. The caller owns all of it. The library has no memory of its own and no global state, allocates nothing, keeps no pointer
- * after a call, and calls nothing but memcpy. A call always ends, never blocks and has no condition on the numbers that it is given.
+ * after a call, and calls nothing but memcpy and memset. A call always ends, never blocks and has no condition on the numbers that it is given.
  * Its stack: WEQHASO_STEP_STACK, WEQHASO_START_STACK, WEQHASO_STACK.
  *
  * Slices. Each is passed as a pointer and a length, which counts elements. Pointers are aligned as C aligns what they point to;
