@@ -6,7 +6,7 @@
 mod keyboard;
 mod words;
 
-ghost use Rattle.std.specs.Prelude.{◌≡◌, ◌≤◌, ◌<◌, length};
+ghost use Rattle.std.specs.Prelude.{◌≡◌, ◌≤◌, length};
 ghost use Rattle.std.specs.Io.{ReadsAtMost};
 ghost use Rattle.report.specs.Report.{report_of};
 ghost use Rattle.gate.specs.Word.{task_of};
@@ -73,12 +73,11 @@ fn task_of(word: &[u8]) -> Task
     }
 }
 
-// What word i of the command line asks for, where no other is behind it. One that is no text, or longer than the buffer, is no word of the program's.
-fn task_at<R: Env>(rt: &R, i: usize) -> Task
-    requires { i < 3 }
-{
+// What word i of the command line asks for, where there are so many words, the program's name among them. One that is no text, or longer than
+// the buffer, is no word of the program's.
+fn task_at<R: Env>(rt: &R, i: usize, words: usize) -> Task {
     let mut word = [0u8; 4096];
-    let Err(FillError::NotPresent) = rt.arg(i + 1, &mut word) else {
+    let Err(FillError::NotPresent) = rt.arg(words, &mut word) else {
         return Task::Usage;
     };
     match rt.arg(i, &mut word) {
@@ -94,11 +93,12 @@ fn asked<R: Env>(rt: &R) -> Call {
         Ok(n) => is_word(b"status-on-3", &word[..n]),
         Err(_) => false,
     };
-    let i = if tells { 2 } else { 1 };
-    Call {
-        task: task_at(rt, i),
-        tells,
-    }
+    let task = if tells {
+        task_at(rt, 2, 3)
+    } else {
+        task_at(rt, 1, 2)
+    };
+    Call { task, tells }
 }
 
 // The status's digit on descriptor 3, where the caller has it open.
