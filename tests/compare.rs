@@ -1,6 +1,6 @@
 // The proved library against the second program, on many inputs: seeded, so every run tries the same ones.
 //
-//   rt staticlib exports
+//   tools/library
 //   rustc -O --edition 2021 tests/compare.rs -L target/staticlib -l static=exports -o target/compare && target/compare
 //
 // Random lists of steps (refused ones among them; sensible and absurd readings, as f32 bit patterns; 1 to 155 trains, their numbers
