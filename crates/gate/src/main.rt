@@ -101,7 +101,7 @@ fn asked<R: Env>(rt: &R) -> Call {
     Call { task, tells }
 }
 
-// The status's digit on descriptor 3, where the caller has it open.
+// The status's digit on descriptor 3, where the caller has it open: std writes to it by its name alone.
 fn tell<R: Files>(rt: &R, status: u8)
 where
     R::File: Drop,
