@@ -1,6 +1,5 @@
--- The settings as a list of thirteen values, in the order of their indices (document 01, "Seven settings"; document 02, "Three": settings 8 to 13),
--- or of seven, with the times of kind 1 for all (document 02, "Seven").
--- Decides beyond them: a setting that is not given is 0. Assumes nothing.
+-- The settings as a list of thirteen values, in the order of their indices, or of seven, with the times of kind 1 for all kinds.
+-- Decides beyond that: a setting that is not given is 0. Assumes nothing.
 use Rattle.std.specs.Prelude.{ℕ, suc, cond, List, [], ◌∷◌, eqb}
 use Rattle.settings.specs.declared.Times.{Times}
 use Rattle.settings.specs.declared.Settings.{Settings}
