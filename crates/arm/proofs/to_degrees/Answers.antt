@@ -6,4 +6,4 @@ use Rattle.arm.proofs.to_degrees.Goals as goal
 
 pub returns : goal.returns
 unfolding of_bits
-returns c = degrees_by_division c.args.k (omega arith)
+returns c = rw c.from.ensures (degrees_by_division c.args.angle (omega arith))
