@@ -10,8 +10,7 @@ use lib.Seq.{drop-cons}
 use Rattle.settings.specs.declared.Settings.{Settings}
 use Rattle.settings.specs.declared.Verdict.TheVariants.{Taken, Refused}
 use Rattle.cabinet.specs.declared.Cabinet.{Cabinet}
-use Rattle.cabinet.specs.declared.Stepped.{Stepped}
-use Rattle.cabinet.specs.Cabinet.{number_of, fresh_cabinet, started}
+use Rattle.cabinet.specs.Cabinet.{Stepped, number_of, fresh_cabinet, started}
 use Rattle.bench.specs.declared.Event.TheVariants as events
 use Rattle.runs.specs.declared.Feed.TheVariants.{ToCabinet}
 use Rattle.runs.specs.declared.Letter.{Letter}

@@ -5,8 +5,7 @@ use Rattle.std.specs.Prelude.{ℕ, zero, suc, ◌≡◌, List, [], ◌∷◌, �
 use Rattle.settings.specs.declared.Settings.{Settings}
 use Rattle.settings.specs.declared.Verdict.TheVariants.{Taken, Refused}
 use Rattle.cabinet.specs.declared.Cabinet.{Cabinet}
-use Rattle.cabinet.specs.declared.Stepped.{Stepped}
-use Rattle.cabinet.specs.Cabinet.{number_of, order_of, fresh_cabinet, refused}
+use Rattle.cabinet.specs.Cabinet.{Stepped, number_of, order_of, fresh_cabinet, refused}
 use Rattle.bench.specs.declared.Event.TheVariants as events
 use Rattle.runs.specs.declared.Feed.TheVariants.{ToCabinet}
 use Rattle.runs.specs.declared.Letter.{Letter}

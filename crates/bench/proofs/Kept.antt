@@ -10,16 +10,13 @@ use Rattle.settings.specs.declared.Kind.{Kind}
 use Rattle.settings.specs.declared.Settings.{Settings}
 use Rattle.settings.specs.Refusal.{unless}
 use Rattle.settings.proofs.Laws.{unless_has}
-use Rattle.arm.specs.declared.Reading.{Reading}
-use Rattle.arm.specs.Shown.{angle_of}
+use Rattle.arm.specs.Shown.{angle_of, Reading}
 use Rattle.trains.specs.declared.Entry.{Entry}
-use Rattle.trains.specs.declared.First.{First}
-use Rattle.trains.specs.declared.First.TheVariants.{Nobody}
 use Rattle.trains.specs.declared.Question.{Question}
 use Rattle.trains.specs.declared.Question.TheVariants.{Due, Latest}
 use Rattle.trains.specs.Trains.{is_coming, is_inside}
 use Rattle.trains.specs.Table.{away_entry, inside_entry, put, is_full}
-use Rattle.trains.specs.First.{has_own, instant_of, own_of, earlier_of, first_in, rest_of}
+use Rattle.trains.specs.First.{First, has_own, instant_of, own_of, earlier_of, first_in, rest_of}
 use Rattle.trains.proofs.Laws.{Fits, Room, coming_fits, inside_fits, present_own, fresh_formed, put_formed}
 use Rattle.trains.proofs.Firsts.{own_none, own_some, own_free, own_away, first_same, first_joined, first_rest, first_gone, first_fresh, late_first}
 use Rattle.cabinet.specs.declared.Answer.TheVariants.{Refused}
@@ -29,12 +26,11 @@ use Rattle.cabinet.proofs.Kept.{order_full}
 use Rattle.bench.specs.declared.Event.{Event}
 use Rattle.bench.specs.declared.Event.TheVariants.{Approach, Occupy, Leave}
 use Rattle.bench.specs.declared.Motion.{Motion}
-use Rattle.bench.specs.declared.Sensed.{Sensed}
 use Rattle.bench.specs.declared.Bench.{Bench}
-use Rattle.bench.specs.declared.Moved.{Moved}
-use Rattle.bench.specs.Bench.{now_of, entry_at, stands_at, coming_now, fresh_head, fresh_bench, head_looked, head_approached, head_occupied, head_left, occupy_refusal, bench_leave_refusal, unsensed, moved_by, sensed, unticked, turned, with_motion, clock_refusal, head_ticked, clock_read}
+use Rattle.bench.specs.Bench.{Sensed, Moved, now_of, entry_at, stands_at, coming_now, fresh_head, fresh_bench, head_looked, head_approached, head_occupied, head_left, occupy_refusal, bench_leave_refusal, unsensed, moved_by, sensed, unticked, turned, with_motion, clock_refusal, head_ticked, clock_read}
 use Rattle.bench.specs.Full.{Kept, with_table, full_looked, full_put, full_entered, full_sensed, full_clock_refusal, full_clocked, refused}
 use Rattle.bench.proofs.Laws.{occupy_says, coming_present, leave_says, inside_present, inside_arrived}
+use Rattle.std.specs.Prelude.{None}
 
 -- at the beginning nobody is first
 pub kept_fresh : (s : Settings) → Kept (fresh_bench s)
@@ -49,7 +45,7 @@ module _ (s : Settings) (e : Entry) where
   unfolding has_own instant_of
   inside_due c = own_some s Due (inside_entry e) refl ∙ sym (own_some s Due e (coming_present e.standing c))
 
-  inside_latest : own_of s Latest (inside_entry e) ≡ Nobody
+  inside_latest : own_of s Latest (inside_entry e) ≡ None
   unfolding has_own
   inside_latest = own_none s Latest (inside_entry e) refl
 

@@ -1,18 +1,16 @@
--- The bench's steps by the full look, as document 01 has them ("Clock and arm" and "Cabinet"): at every look and for refusal 11 each train of the table is
--- asked, and what is kept beside the table decides nothing; it is written anew from the table (document 02, "Eight"). Assumes nothing.
-use Rattle.std.specs.Prelude.{ℕ, ◌≡◌, not, leb}
+-- The bench's steps by the full look: at every look and for refusal 11 each train of the table is asked, and what is kept beside the table
+-- decides nothing; it is written anew from the table. Assumes nothing.
+use Rattle.std.specs.Prelude.{ℕ, ◌≡◌, not, leb, None}
 use Rattle.settings.specs.declared.Settings.{Settings}
 use Rattle.settings.specs.Refusal.{refuse, unless}
 use Rattle.settings.specs.Settings.{ticks_of}
-use Rattle.arm.specs.declared.Reading.{Reading}
-use Rattle.arm.specs.Shown.{is_allowed, angle_of}
+use Rattle.arm.specs.Shown.{is_allowed, angle_of, Reading}
 use Rattle.arm.specs.Movement.{may_move}
 use Rattle.trains.specs.declared.Entry.{Entry}
 use Rattle.trains.specs.declared.Question.TheVariants.{Due, Latest}
 use Rattle.trains.specs.declared.Table.{Table}
 use Rattle.trains.specs.Table.{away_entry, inside_entry, put, some_late, is_full, WellFormed}
 use Rattle.trains.specs.First.{first_in}
-use Rattle.cabinet.specs.declared.Order.TheVariants.{Nothing}
 use Rattle.cabinet.specs.declared.Answer.TheVariants.{Taken, Refused}
 use Rattle.cabinet.specs.Cabinet.{later, approach_refusal}
 use Rattle.cabinet.specs.Full.{full_looked_at}
@@ -20,8 +18,7 @@ use Rattle.bench.specs.declared.Event.{Event}
 use Rattle.bench.specs.declared.Event.TheVariants.{Approach, Occupy, Leave}
 use Rattle.bench.specs.declared.Motion.{Motion}
 use Rattle.bench.specs.declared.Bench.{Bench}
-use Rattle.bench.specs.declared.Moved.{Moved}
-use Rattle.bench.specs.Bench.{now_of, command_of, arm_of, entry_at, stands_at, coming_now, occupy_refusal, bench_leave_refusal}
+use Rattle.bench.specs.Bench.{Moved, now_of, command_of, arm_of, entry_at, stands_at, coming_now, occupy_refusal, bench_leave_refusal}
 
 -- what is kept is what settings and table say: D and U, the soonest due present train, and the coming train that is first at its latest instant,
 -- of equals the lowest number
@@ -56,7 +53,7 @@ full_put b n entry = full_looked b.head.settings (put b.table n entry) b.head.mo
 -- a train goes inside; the cabinet does not hear it, and does not look
 abbrev pub full_entered : Bench → ℕ → Moved
 full_entered b n =
-    record { answer = Taken Nothing; bench = with_table b.head.settings b.head.motion (put b.table n (inside_entry (entry_at b n))) }
+    record { answer = Taken None; bench = with_table b.head.settings b.head.motion (put b.table n (inside_entry (entry_at b n))) }
 
 -- a sensor's event of train n, by the refusals of the bench
 unfoldable pub full_sensed : Bench → Event → ℕ → Moved

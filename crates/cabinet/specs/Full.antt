@@ -1,6 +1,6 @@
--- The cabinet's steps by the full look, as document 01 has them ("Cabinet"): at every look each train of the table is asked, and the train
--- that is kept beside the table decides nothing; it is written anew from the table (document 02, "Four" and "Eight"). Assumes nothing.
-use Rattle.std.specs.Prelude.{ℕ, ◌≡◌, leb}
+-- The cabinet's steps by the full look: at every look each train of the table is asked, and the train that is kept beside the table
+-- decides nothing; it is written anew from the table. Assumes nothing.
+use Rattle.std.specs.Prelude.{ℕ, ◌≡◌, leb, Option}
 use Rattle.settings.specs.declared.Kind.{Kind}
 use Rattle.settings.specs.declared.Settings.{Settings}
 use Rattle.settings.specs.Refusal.{refuse, unless}
@@ -13,10 +13,8 @@ use Rattle.trains.specs.First.{train_of, first_in}
 use Rattle.cabinet.specs.declared.Order.{Order}
 use Rattle.cabinet.specs.declared.Answer.TheVariants.{Taken}
 use Rattle.cabinet.specs.declared.Control.{Control}
-use Rattle.cabinet.specs.declared.Controlled.{Controlled}
 use Rattle.cabinet.specs.declared.Cabinet.{Cabinet}
-use Rattle.cabinet.specs.declared.Stepped.{Stepped}
-use Rattle.cabinet.specs.Cabinet.{horizon, order_for, command_after, later, refused, coming_now, approach_refusal, leave_refusal}
+use Rattle.cabinet.specs.Cabinet.{Stepped, Controlled, horizon, order_for, command_after, later, refused, coming_now, approach_refusal, leave_refusal}
 
 -- what is kept is what settings and table say: D and U, and the soonest due present train, of equals the lowest number
 pub record Kept (c : Cabinet) : Type 0 where
@@ -27,7 +25,7 @@ pub record Kept (c : Cabinet) : Type 0 where
 -- ---- the full look
 
 -- what it orders: every present train is asked whether it is due, and a lower names the one that is due soonest, of equals the lowest number
-abbrev pub full_order : Settings → Table → Control → Order
+abbrev pub full_order : Settings → Table → Control → Option Order
 full_order s t w = order_for w.command (due_by t s (horizon w.command s (ticks_of s) w.now)) (train_of (first_in s Due t))
 
 -- the order given, and the command as it then is

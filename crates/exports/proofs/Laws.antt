@@ -1,4 +1,5 @@
 -- What the contracts of `runs::run`, `alone::run`, `recording::record_run` and `report::report` say by the number of their answers. Assumes nothing.
+use Rattle.std.specs.Prelude.{None}
 use Prim.Native.Nat.{ℕ, zero, suc, ◌+◌, ◌≤◌}
 use native.Mathlib.Omega.{arith}
 use mathlib.Core.Path.{◌≡◌, refl, sym, ap, ◌∙◌}
@@ -8,7 +9,6 @@ use mathlib.Core.List.{List, []}
 use lib.ListN.{length}
 use Rattle.settings.specs.declared.Settings.{Settings}
 use Rattle.settings.specs.Settings.{number_of}
-use Rattle.cabinet.specs.declared.Order.TheVariants.{Nothing}
 use Rattle.cabinet.specs.declared.Answer.TheVariants.{Taken}
 use Rattle.cabinet.specs.Cabinet as cabinet
 use Rattle.runs.specs.declared.Step.{Step}
@@ -68,11 +68,11 @@ module _ (s : Settings) (xs : List Step) (d : List ℕ) where
   recorded = text current s (run_so_far s (length d) [] xs)
 
   -- its end is the end of the record, and within it
-  end_recorded : (k : ℕ) → k ≡ 0 → start_in s d ≡ Taken Nothing → ((run_gives k s d xs).recorder.at + line_bytes current ≡ length recorded) × (length recorded ≤ length d)
+  end_recorded : (k : ℕ) → k ≡ 0 → start_in s d ≡ Taken None → ((run_gives k s d xs).recorder.at + line_bytes current ≡ length recorded) × (length recorded ≤ length d)
   end_recorded k z a = rw z (ends_always s d xs a)
 
   -- what the record holds is the text, and after it the bytes that were there
-  bytes_recorded : (k : ℕ) → (k ≡ 0 → start_in s d ≡ Taken Nothing) → run_leaves k s d xs ≡ unless_refused k recorded d
+  bytes_recorded : (k : ℕ) → (k ≡ 0 → start_in s d ≡ Taken None) → run_leaves k s d xs ≡ unless_refused k recorded d
   bytes_recorded zero a = let z : 0 + length recorded ≡ length recorded = omega arith in spliced_always s d xs (a refl) ∙ rw z
   bytes_recorded (suc k) a = refl
 
@@ -81,7 +81,7 @@ module _ (s : Settings) (xs : List Step) (d : List ℕ) where
   count_recorded zero bytes p q = p refl
   count_recorded (suc k) bytes p q = q (λ z. omega arith)
 
-module _ (s : Settings) (xs : List Step) (k : ℕ) (r : Recorded) (old new : Told) (d e : List ℕ) (starts : k ≡ 0 → start_in s d ≡ Taken Nothing)
+module _ (s : Settings) (xs : List Step) (k : ℕ) (r : Recorded) (old new : Told) (d e : List ℕ) (starts : k ≡ 0 → start_in s d ≡ Taken None)
     (ran : RunRecorded s xs k r old new d e) (n : ℕ) (numbered : n ≡ cabinet.number_of r.answer) where
   number_is : n ≡ k
   number_is = numbered ∙ ap (λ (g : Recorded). cabinet.number_of g.answer) ran.gives ∙ number_recorded s xs d k

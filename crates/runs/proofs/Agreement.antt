@@ -1,6 +1,7 @@
 -- The bench as built, run through a list, is as the rules say: it has their instant, arm, trains' entries and command, and gives their answers.
 -- Proved of the full look, step by step, and carried to the bench as built by the equation of the two (Kept).
 -- What is said of a table and a look holds for a cabinet alone too, which is not told of occupies. Assumes nothing.
+use Rattle.std.specs.Prelude.{None, Option}
 use Prim.Native.Nat.{ℕ, zero, suc, ◌+◌}
 use native.Mathlib.Omega.{arith}
 use native.Mathlib.Decide.{ℕ_discrete}
@@ -30,16 +31,13 @@ use Rattle.trains.specs.First.{has_own, instant_of, own_of, train_of, first_in}
 use Rattle.trains.proofs.Firsts.{first_is}
 use Rattle.trains.proofs.Laws.{Fits, Room, coming_fits, inside_fits, present_own, fresh_formed, fresh_away, fresh_present, less_room, put_present, put_formed, put_same, put_other, some_train_law, train_some}
 use Rattle.cabinet.specs.declared.Order.{Order}
-use Rattle.cabinet.specs.declared.Order.TheVariants.{Nothing}
 use Rattle.cabinet.specs.declared.Answer.TheVariants.{Taken}
 use Rattle.cabinet.specs.declared.Control.{Control}
-use Rattle.cabinet.specs.declared.Controlled.{Controlled}
-use Rattle.cabinet.specs.Cabinet.{number_of, order_of, horizon, order_for, command_after, later, approach_refusal}
+use Rattle.cabinet.specs.Cabinet.{Controlled, number_of, order_of, horizon, order_for, command_after, later, approach_refusal}
 use Rattle.cabinet.specs.Full.{full_order, full_looked_at}
 use Rattle.bench.specs.declared.Motion.{Motion}
 use Rattle.bench.specs.declared.Bench.{Bench}
-use Rattle.bench.specs.declared.Moved.{Moved}
-use Rattle.bench.specs.Bench.{now_of, command_of, arm_of, entry_at, stands_at, fresh_head, fresh_bench, occupy_refusal, bench_leave_refusal}
+use Rattle.bench.specs.Bench.{Moved, now_of, command_of, arm_of, entry_at, stands_at, fresh_head, fresh_bench, occupy_refusal, bench_leave_refusal}
 use Rattle.bench.specs.Full.{Kept, full_looked, full_put, full_entered, full_sensed, full_clock_refusal, full_clocked, refused}
 use Rattle.bench.proofs.Laws.{coming_present}
 use Rattle.bench.proofs.Kept.{kept_fresh}
@@ -133,7 +131,7 @@ module _ {told : Bool} {s : Settings} {h : History} {u : Settings} {i : ℕ} {t 
       same n = by_entry (own_of s Due) (due_from s n) n (each told n) ∙ sym (due_from_law s h n)
 
   -- the full look: the order is the rules', and so is the command after it
-  abbrev Looked : Order → Command → Type 0
+  abbrev Looked : Option Order → Command → Type 0
   Looked o k = (o ≡ given (train_of (soonest s h)) k (look s h k)) × (command_after o k ≡ look s h k)
 
   look_is : (k : Command) → Looked (full_order u t (record { now = i; command = k })) k
@@ -280,7 +278,7 @@ record Takes (s : Settings) (h : History) (x : Step) (m : Moved) : Type 0 where
   pub angle : arm_of m.bench ≡ arm (x ∷ h)
   pub previous : m.bench.head.motion.previous ≡ arm_before (x ∷ h)
 
-pub unmoved : (n : ℕ) (k : Command) → given n k k ≡ Nothing
+pub unmoved : (n : ℕ) (k : Command) → given n k k ≡ None
 unmoved n Up = refl
 unmoved n Down = refl
 
@@ -386,7 +384,7 @@ unfolding fresh_bench fresh_head command
 fresh_match s = record { core = fresh_core true s; command = refl; angle = refl; previous = refl; kept = kept_fresh s }
 
 -- the number of an answer is the number that it was made from
-pub number_answer : (k : ℕ) (o : Order) → number_of (answer_of k o) ≡ k
+pub number_answer : (k : ℕ) (o : Option Order) → number_of (answer_of k o) ≡ k
 number_answer zero o = refl
 number_answer (suc k) o = refl
 
@@ -407,7 +405,7 @@ module _ (s : Settings) where
       (run_numbers xs (after s h x) (bench_stepped b x).bench (valid_after s h x v) p.match)
 
   -- the command of an answer with the number k, given o where the step is taken
-  pub order_kept : (h : History) (x : Step) (k : ℕ) (o : Order) → (k ≡ 0 → o ≡ order_between s h (x ∷ h)) → order_of (answer_of k o) ≡ order_between s h (keep k x h)
+  pub order_kept : (h : History) (x : Step) (k : ℕ) (o : Option Order) → (k ≡ 0 → o ≡ order_between s h (x ∷ h)) → order_of (answer_of k o) ≡ order_between s h (keep k x h)
   order_kept h x zero o e = e refl
   order_kept h x (suc k) o e = sym (unmoved _ (command s h))
 
@@ -419,7 +417,7 @@ module _ (s : Settings) where
   run_orders [] h b v m = refl
   run_orders (x ∷ xs) h b v m =
       let p = step_stands s h b m v x in
-      ap₂ (λ (k : Order) (l : List Order). k ∷ l) (ap order_of p.answer ∙ order_answer h x)
+      ap₂ (λ (k : Option Order) (l : List (Option Order)). k ∷ l) (ap order_of p.answer ∙ order_answer h x)
       (run_orders xs (after s h x) (bench_stepped b x).bench (valid_after s h x v) p.match)
 
   pub agrees : (xs : List Step) → Agrees s (history s [] xs) (bench_after (fresh_bench s) xs)

@@ -5,14 +5,12 @@ use mathlib.Core.List.{List, [], ◌∷◌}
 use lib.ListN.{take}
 use Rattle.arm.specs.Shown.{reading_of}
 use Rattle.cabinet.specs.declared.Cabinet.{Cabinet}
-use Rattle.cabinet.specs.declared.Stepped.{Stepped}
-use Rattle.cabinet.specs.Cabinet.{fresh_cabinet}
+use Rattle.cabinet.specs.Cabinet.{Stepped, fresh_cabinet}
 use Rattle.cabinet.specs.Full as cabinet
 use Rattle.cabinet.proofs.Kept as heard
 use Rattle.bench.specs.declared.Bench.{Bench}
-use Rattle.bench.specs.declared.Moved.{Moved}
 use Rattle.bench.specs.declared.Event.TheVariants as events
-use Rattle.bench.specs.Bench.{fresh_bench}
+use Rattle.bench.specs.Bench.{Moved, fresh_bench}
 use Rattle.bench.specs.Full as bench
 use Rattle.bench.proofs.Kept as sensed
 use Rattle.runs.specs.declared.Step.{Step}

@@ -1,4 +1,5 @@
 -- A lower names the train that is due soonest, on every list of steps. Assumes nothing.
+use Rattle.std.specs.Prelude.{Some}
 use Prim.Native.Nat.{ℕ, suc, ◌≤◌}
 use native.Mathlib.Omega.{arith}
 use mathlib.Core.Path.{◌≡◌, refl, sym, ◌∙◌, ap}
@@ -10,10 +11,9 @@ use borrow.Author.Tests.{le-leb, leb-true}
 use Rattle.settings.specs.declared.Settings.{Settings}
 use Rattle.arm.specs.declared.Command.{Command}
 use Rattle.arm.specs.declared.Command.TheVariants.{Up, Down}
-use Rattle.trains.specs.declared.First.{First}
 use Rattle.trains.specs.declared.First.TheVariants.{Nobody, Train}
 use Rattle.trains.specs.declared.Question.TheVariants.{Due}
-use Rattle.trains.specs.First.{reached_by, train_of, first_in}
+use Rattle.trains.specs.First.{First, reached_by, train_of, first_in}
 use Rattle.trains.proofs.Laws.{train_says}
 use Rattle.cabinet.specs.declared.Order.TheVariants.{Lower}
 use Rattle.bench.specs.Bench.{fresh_bench}
@@ -28,7 +28,7 @@ use Rattle.runs.proofs.Single.{lowered_due}
 use Rattle.runs.proofs.Agreement.{table_soonest, fresh_match, run_match}
 
 -- a lower turns the command down, and names what it was given
-lower_says : (m n : ℕ) (k l : Command) → given m k l ≡ Lower n → (k ≡ Up) × (l ≡ Down) × (m ≡ n)
+lower_says : (m n : ℕ) (k l : Command) → given m k l ≡ Some (Lower n) → (k ≡ Up) × (l ≡ Down) × (m ≡ n)
 lower_says m n Up Up e = absurd (let z : ◌≡◌ {A = ℕ} 0 1 = cc in omega arith)
 lower_says m n Up Down e = (refl, refl, cc)
 lower_says m n Down Up e = absurd (let z : ◌≡◌ {A = ℕ} 0 1 = cc in omega arith)

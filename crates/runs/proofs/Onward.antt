@@ -1,24 +1,20 @@
 -- The bench on its way through a list, its numbers, its commands and the trains of its lowers written: the loop's beginning, its turns (an event that is taken, one that is
 -- refused, and a clock step, from what the code has at each) and its end. Assumes nothing.
+use Rattle.std.specs.Prelude.{Option}
 use Prim.Native.Nat.{ℕ, ◌+◌, ◌≤◌, ◌<◌}
 use mathlib.Core.Path.{◌≡◌, refl, sym, ap, ◌∙◌}
 use mathlib.Core.List.{List}
 use lib.Ieee.{Float, nan}
 use lib.ListN.{length, get_or, set}
 use Rattle.arm.specs.Shown.{reading_of}
-use Rattle.trains.specs.declared.Asked.{Asked}
-use Rattle.trains.specs.declared.First.{First}
 use Rattle.trains.specs.declared.Question.{Question}
-use Rattle.trains.specs.First.{asked_of}
+use Rattle.trains.specs.First.{First, Asked, asked_of}
 use Rattle.cabinet.specs.declared.Answer.TheVariants.{Taken, Refused}
 use Rattle.cabinet.specs.declared.Order.{Order}
 use Rattle.cabinet.specs.Cabinet.{number_of}
 use Rattle.bench.specs.declared.Bench.{Bench}
 use Rattle.bench.specs.declared.Event.{Event}
-use Rattle.bench.specs.declared.Sensed.{Sensed}
-use Rattle.bench.specs.declared.Moved.{Moved}
-use Rattle.bench.specs.declared.Ticked.{Ticked}
-use Rattle.bench.specs.Bench.{sensed, clock_read, head_sensed, head_ticked, asked_for, first_for, question_for, with_motion}
+use Rattle.bench.specs.Bench.{Sensed, Ticked, Moved, sensed, clock_read, head_sensed, head_ticked, asked_for, first_for, question_for, with_motion}
 use Rattle.runs.specs.declared.Feed.TheVariants.{ToBench}
 use Rattle.runs.specs.declared.Letter.TheVariants as letter
 use Rattle.runs.specs.declared.Step.{Step}
@@ -72,7 +68,7 @@ module _ {ls ns : List ℕ} {rs : List Float} {old : Told} {first : Bench}
           turn (event_step c (get_or ns i 0)) (sensed b c (get_or ns i 0)) after (λ xs. rw is) (sym (event_sensed b (get_or ns i 0) c))
           (ev ∙ ap number_of answer) (ew ∙ ap answer_byte answer) (ez ∙ ap answer_train answer) e
 
-      pub turn_taken : (o : Order) → h.answer ≡ Taken o →
+      pub turn_taken : (o : Option Order) → h.answer ≡ Taken o →
           BenchWent ls ns rs old first (told_at new i v w z)
           (record { head = h.head; table = record { places = set b.table.places a.place h.entry } }) (i + 1)
       turn_taken o k =

@@ -1,5 +1,6 @@
 -- Histories that show the same trains, clock, arm and command: every list of steps from there on gets the same numbers and commands, and leads to such
 -- histories again; and so for the bench as built. Assumes nothing.
+use Rattle.std.specs.Prelude.{Option}
 use Prim.Native.Nat.{ℕ, zero, suc, ◌+◌, ◌-◌}
 use mathlib.Core.Path.{◌≡◌, refl, sym, ◌∙◌, ap, ap₂}
 use mathlib.Core.Bool.{Bool, true, false, not, ◌&&◌, false≢true}
@@ -167,7 +168,7 @@ module _ (s : Settings) where
   pub orders_same : (xs : List Step) {h g : History} → Alike h g → orders s h xs ≡ orders s g xs
   unfolding orders
   orders_same [] alike = refl
-  orders_same (x ∷ xs) alike = ap₂ (λ (o : Order) (l : List Order). o ∷ l) (order_same alike x) (orders_same xs (after_same alike x))
+  orders_same (x ∷ xs) alike = ap₂ (λ (o : Option Order) (l : List (Option Order)). o ∷ l) (order_same alike x) (orders_same xs (after_same alike x))
 
   -- benches that are as the rules say of such histories answer alike
   pub answers_same : (xs : List Step) (h g : History) (b c : Bench) → Valid s h → Valid s g → Match s h b → Match s g c → Alike h g →

@@ -10,9 +10,8 @@ use borrow.Author.Tests.{eqb-true, eq-eqb}
 use Rattle.settings.specs.declared.Kind.{Kind}
 use Rattle.settings.specs.declared.Settings.{Settings}
 use Rattle.settings.specs.Settings.{times_of}
-use Rattle.trains.specs.declared.First.{First}
 use Rattle.trains.specs.declared.First.TheVariants.{Nobody, Train}
-use Rattle.trains.specs.First.{earlier_of, reached_by, IsFirst}
+use Rattle.trains.specs.First.{First, earlier_of, reached_by, IsFirst}
 use Rattle.trains.proofs.Order.{before_says, earlier_swap, earlier_least, earlier_none, earlier_either, earlier_again, only_first, reached_earlier}
 use Rattle.runs.specs.History.{History, Place, place, is_away, since, kind_of, due_at, trains_named, some_among, some_train, some_due, due_of, soonest_among, soonest}
 use Rattle.runs.specs.Swap.{SameTrain}

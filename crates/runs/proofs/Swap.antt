@@ -1,6 +1,7 @@
 -- Two neighbouring accepted events of one instant about different trains can be swapped, but for a train that comes beside one that goes.
 -- The laws go by what an event does to its train: where no train goes, all who were present stay; where none comes, all who are present were.
 -- So the looks of the two only ever turn the command one way, and one look at the end gives the same. Assumes nothing.
+use Rattle.std.specs.Prelude.{None, Some, Option}
 use Prim.Native.Nat.{ℕ, ◌<◌}
 use native.Mathlib.Omega.{arith}
 use native.Mathlib.Decide.{ℕ_discrete}
@@ -18,7 +19,7 @@ use Rattle.bench.specs.declared.Event.{Event}
 use Rattle.bench.specs.declared.Event.TheVariants as events
 use Rattle.bench.specs.Bench.{fresh_bench}
 use Rattle.cabinet.specs.declared.Order.{Order}
-use Rattle.cabinet.specs.declared.Order.TheVariants.{Nothing, Lower, Raise}
+use Rattle.cabinet.specs.declared.Order.TheVariants.{Lower, Raise}
 use Rattle.cabinet.specs.Cabinet.{number_of, order_of}
 use Rattle.runs.specs.declared.Step.{Step}
 use Rattle.runs.specs.declared.Step.TheVariants.{Occupy}
@@ -95,10 +96,10 @@ given_once : (a b c : Command) → (b ≡ a) ⊎ (b ≡ c) → commands_given (g
 given_once a b c (inl e) = rw (e, unmoved 0 a)
 given_once a b c (inr e) = rw (e, unmoved 0 c) (left_out (given 0 a c))
   where
-    left_out : (o : Order) → commands_given (o ∷ Nothing ∷ []) ≡ commands_given (o ∷ [])
-    left_out Nothing = refl
-    left_out (Lower n) = refl
-    left_out Raise = refl
+    left_out : (o : Option Order) → commands_given (o ∷ None ∷ []) ≡ commands_given (o ∷ [])
+    left_out None = refl
+    left_out (Some (Lower n)) = refl
+    left_out (Some Raise) = refl
 
 module _ (s : Settings) (g : Fitting s) where
   -- ---- two events

@@ -6,13 +6,11 @@ use Rattle.settings.specs.declared.Settings.{Settings}
 use Rattle.arm.specs.Shown.{reading_of}
 use Rattle.cabinet.specs.declared.Answer.{Answer}
 use Rattle.cabinet.specs.declared.Cabinet.{Cabinet}
-use Rattle.cabinet.specs.declared.Stepped.{Stepped}
-use Rattle.cabinet.specs.Cabinet.{fresh_cabinet}
+use Rattle.cabinet.specs.Cabinet.{Stepped, fresh_cabinet}
 use Rattle.cabinet.specs.Full as cabinet
 use Rattle.bench.specs.declared.Bench.{Bench}
-use Rattle.bench.specs.declared.Moved.{Moved}
 use Rattle.bench.specs.declared.Event.TheVariants as events
-use Rattle.bench.specs.Bench.{fresh_bench}
+use Rattle.bench.specs.Bench.{Moved, fresh_bench}
 use Rattle.bench.specs.Full as bench
 use Rattle.runs.specs.declared.Step.{Step}
 use Rattle.runs.specs.declared.Step.TheVariants.{Approach, Occupy, Leave, Clock}

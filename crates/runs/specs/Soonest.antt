@@ -1,7 +1,7 @@
 -- Which train brought the arm down (document 02, "Four"): the present train that is due soonest, and of equals the one with the lowest number. Said of
 -- every moment of every list of bench steps, refused ones among them, under any settings: what makes it the soonest, that the bench as built has the same
 -- in its table and beside it, and that a lower names it. Assumes nothing.
-use Rattle.std.specs.Prelude.{ℕ, suc, ◌≤◌, ◌≡◌, true, false, List, take}
+use Rattle.std.specs.Prelude.{ℕ, suc, ◌≤◌, ◌≡◌, true, false, List, take, Some}
 use Rattle.settings.specs.declared.Settings.{Settings}
 use Rattle.arm.specs.declared.Command.TheVariants.{Up, Down}
 use Rattle.trains.specs.declared.First.TheVariants.{Nobody, Train}
@@ -41,7 +41,7 @@ module _ (s : Settings) (xs : List Step) where
     pub table : (i : ℕ) → first_in s Due (built_at i).table ≡ soonest s (moment s xs i)
     pub kept : (i : ℕ) → (built_at i).head.soonest ≡ soonest s (moment s xs i)
     -- step i lowers the arm for train n: the command was up and is down, and after the step n is the soonest and due within D
-    pub lowers : (i n : ℕ) → step_order s xs i ≡ Lower n →
+    pub lowers : (i n : ℕ) → step_order s xs i ≡ Some (Lower n) →
         (command s (moment s xs i) ≡ Up) × (command s (moment s xs (suc i)) ≡ Down)
         × ((t : ℕ) × (soonest s (moment s xs (suc i)) ≡ Train n t) × (t ≤ lowering s (moment s xs (suc i))))
 

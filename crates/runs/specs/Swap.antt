@@ -3,11 +3,11 @@
 -- What is said of a list is the rules' alone (History); then the same of the bench as built, run through both lists. Assumes nothing.
 --
 -- Notation: as in History and Demand. `xs ++ ys`: the steps of xs, then those of ys; `n ≢ m`: they differ; `⊥`: what cannot be.
-use Rattle.std.specs.Prelude.{ℕ, ◌≡◌, Bool, false, ◌&&◌, ◌||◌, List, [], ◌∷◌, ◌++◌, map, ◌≢◌, take}
+use Rattle.std.specs.Prelude.{ℕ, ◌≡◌, Bool, false, ◌&&◌, ◌||◌, List, [], ◌∷◌, ◌++◌, map, ◌≢◌, take, None, Some, Option}
 use Rattle.settings.specs.declared.Settings.{Settings}
 use Rattle.settings.specs.Settings.{Accepted}
 use Rattle.cabinet.specs.declared.Order.{Order}
-use Rattle.cabinet.specs.declared.Order.TheVariants.{Nothing, Lower, Raise}
+use Rattle.cabinet.specs.declared.Order.TheVariants.{Lower, Raise}
 use Rattle.cabinet.specs.declared.Answer.{Answer}
 use Rattle.cabinet.specs.Cabinet.{number_of, order_of}
 use Rattle.bench.specs.declared.Bench.{Bench}
@@ -59,11 +59,11 @@ pub record SameBench (b c : Bench) : Type 0 where
   pub trains : (n : ℕ) → entry_at b n ≡ entry_at c n
 
 -- the commands given at some steps, in order, a lower with its train, whichever of the steps gave them
-abbrev pub commands_given : List Order → List Order
+abbrev pub commands_given : List (Option Order) → List (Option Order)
 commands_given [] = []
-commands_given (Nothing ∷ given) = commands_given given
-commands_given (Lower n ∷ given) = Lower n ∷ commands_given given
-commands_given (Raise ∷ given) = Raise ∷ commands_given given
+commands_given (None ∷ given) = commands_given given
+commands_given (Some (Lower n) ∷ given) = Some (Lower n) ∷ commands_given given
+commands_given ((Some Raise) ∷ given) = (Some Raise) ∷ commands_given given
 
 -- the bench as built after a list from fresh, and what it answers to the steps that follow
 abbrev pub bench_at : Settings → List Step → Bench

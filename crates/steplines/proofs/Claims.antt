@@ -1,4 +1,5 @@
 -- The claims on fields, angles and lines hold. Assumes nothing.
+use Rattle.std.specs.Prelude.{None, Some}
 use Prim.Native.Nat.{ℕ, suc, ◌*◌, ◌/◌, ◌%◌, ◌^◌, ◌≤◌, ◌<◌}
 use native.Mathlib.Omega.{arith}
 use native.Mathlib.Nat.{div-add-mod', mul-mod_left, mul-div_cancel, one-le-pow}
@@ -12,11 +13,9 @@ use lib.Ieee.{round}
 use lib.ListN.{length, take}
 use lib.Seq.{take_all, length-take-le}
 use Rattle.settings.proofs.Laws.{both}
-use Rattle.arm.specs.declared.Reading.{Reading}
 use Rattle.arm.specs.Angle.{degrees}
-use Rattle.arm.specs.Shown.{reading_of}
+use Rattle.arm.specs.Shown.{reading_of, Reading}
 use Rattle.arm.proofs.Readings.{round_trip}
-use Rattle.arm.specs.declared.Reading.TheVariants.{Angle, Refused}
 use Rattle.steplines.specs.Fields.{is_blank, fields_from, fields, begins}
 use Rattle.steplines.specs.Numbers.{angle_of, degrees_of}
 use Rattle.steplines.specs.StepLine.{meaning_of}
@@ -48,7 +47,7 @@ fields_are =
 
 -- ---- angles
 
-chosen : (t : Bool) (q m : ℕ) → cond t (Angle q) Refused ≡ Angle m → (t ≡ true) × (q ≡ m)
+chosen : (t : Bool) (q m : ℕ) → cond t (Some q) None ≡ Some m → (t ≡ true) × (q ≡ m)
 chosen true q m e = (refl, cc)
 chosen false q m e = absurd (let z : ◌≡◌ {A = ℕ} 0 1 = cc in omega arith)
 
@@ -60,7 +59,7 @@ sign_holds : (minus : Bool) (d : ℕ) → (minus ≡ true → d ≡ 0) → (not 
 sign_holds true d h = eq-eqb d 0 (h refl)
 sign_holds false d h = refl
 
-is_angle : (minus : Bool) (d k m : ℕ) → angle_of minus d k ≡ Angle m → (m * 10 ^ k ≡ 64 * d) × (m ≤ 5760) × (minus ≡ true → d ≡ 0)
+is_angle : (minus : Bool) (d k m : ℕ) → angle_of minus d k ≡ Some m → (m * 10 ^ k ≡ 64 * d) × (m ≤ 5760) × (minus ≡ true → d ≡ 0)
 unfolding angle_of
 is_angle minus d k m e =
     let q = 64 * d / 10 ^ k in
@@ -73,7 +72,7 @@ is_angle minus d k m e =
       sign_says minus d s.1,
     )
 
-only_angle : (minus : Bool) (d k m : ℕ) → m * 10 ^ k ≡ 64 * d → m ≤ 5760 → (minus ≡ true → d ≡ 0) → angle_of minus d k ≡ Angle m
+only_angle : (minus : Bool) (d k m : ℕ) → m * 10 ^ k ≡ 64 * d → m ≤ 5760 → (minus ≡ true → d ≡ 0) → angle_of minus d k ≡ Some m
 unfolding angle_of
 only_angle minus d k m e h s =
     rw (← e, mul-mod_left m (10 ^ k), mul-div_cancel m (one-le-pow k 10 (omega arith)), le-leb m 5760 h, sign_holds minus d s)
@@ -81,10 +80,10 @@ only_angle minus d k m e h s =
 pub angle_exactly : (minus : Bool) (d k m : ℕ) → AngleExactly minus d k m
 angle_exactly minus d k m = record { is = is_angle minus d k m; only = only_angle minus d k m }
 
-read_back : (r : Reading) → ((m : ℕ) → r ≡ Angle m → m ≤ 5760) → reading_of (degrees_of r) ≡ r
+read_back : (r : Reading) → ((m : ℕ) → r ≡ Some m → m ≤ 5760) → reading_of (degrees_of r) ≡ r
 unfolding reading_of degrees round
-read_back (Angle m) h = round_trip m (h m refl)
-read_back Refused h = refl
+read_back (Some m) h = round_trip m (h m refl)
+read_back None h = refl
 
 pub bench_reads_law : BenchReads
 bench_reads_law minus d k = read_back (angle_of minus d k) (λ m e. (is_angle minus d k m e).1)

@@ -1,4 +1,5 @@
 -- Laws of a line's meaning, by its fields. Assumes nothing.
+use Rattle.arm.specs.Shown.{Reading}
 use Prim.Native.Nat.{ℕ, suc, ◌+◌, ◌≤◌, ◌<◌}
 use native.Mathlib.Nat.{zero-add, add-suc, suc-add}
 use native.Mathlib.Numerals.{add-one}
@@ -14,7 +15,6 @@ use lib.Seq.{drop-cons, take_all, length-take-le}
 use Rattle.settings.specs.declared.Settings.{Settings}
 use Rattle.settings.proofs.Laws.{both}
 use Rattle.settings.specs.Values.{with_setting, no_settings, set_all}
-use Rattle.arm.specs.declared.Reading.{Reading}
 use Rattle.runs.specs.declared.Step.TheVariants.{Clock}
 use Rattle.runs.specs.Letters.{letter_of}
 use Rattle.steplines.specs.declared.Meaning.{Meaning}

@@ -1,5 +1,6 @@
 -- Laws of readings: the angle of d / 10 ^ k degrees, for any number of decimals, by the first six of them and whether a later one is not 0.
 -- One 64th of 10 ^ 6 is 15,625. Assumes nothing.
+use Rattle.std.specs.Prelude.{None, Some}
 use Prim.Native.Nat.{ℕ, zero, suc, ◌+◌, ◌-◌, ◌*◌, ◌/◌, ◌%◌, ◌^◌, ◌≤◌, ◌<◌}
 use native.Mathlib.Omega.{arith}
 use native.Mathlib.Nat.{zero-add, pow-suc, add-mul, mul_assoc, mul_right_comm, mul-le-mul_right, mod-lt, div-add-mod', div-eq_of_lt-le, zero-div}
@@ -11,7 +12,6 @@ use borrow.Author.Tests.{eqb-true, eqb-false, leb-true, leb-false, eq-eqb, ne_eq
 use lib.Dec.{eqb, leb}
 use lib.ListN.{length, get_or, drop}
 use Rattle.settings.proofs.Laws.{both, within_says}
-use Rattle.arm.specs.declared.Reading.TheVariants.{Angle, Refused}
 use Rattle.steplines.specs.Numbers.{is_digit, all_digits, value_from, value, smaller, largest, number_of, angle_of, angle_in}
 use Rattle.steplines.specs.Walk.{with_decimals, most_with, by_six}
 
@@ -139,11 +139,11 @@ some_given : (d p q : ℕ) → 64 * d / p ≡ q → 64 * d % p ≡ 0 → (d ≡ 
 some_given d p zero e t z = absurd (omega (arith, z, t, rw e at (div-add-mod' (64 * d) p)))
 some_given d p (suc q) e t z = omega arith
 
-without : (t : Bool) (q : ℕ) → cond (t && (leb q 5760 && true)) (Angle q) Refused ≡ cond (t && leb q 5760) (Angle q) Refused
+without : (t : Bool) (q : ℕ) → cond (t && (leb q 5760 && true)) (Some q) None ≡ cond (t && leb q 5760) (Some q) None
 without t q = rw and-true
 
 with_minus : (t z : Bool) (q : ℕ) → (z ≡ true → q ≡ 0) → (t ≡ true → z ≡ false → 0 < q)
-    → cond (t && (leb q 5760 && z)) (Angle q) Refused ≡ cond (t && leb q 0) (Angle q) Refused
+    → cond (t && (leb q 5760 && z)) (Some q) None ≡ cond (t && leb q 0) (Some q) None
 with_minus false z q a b = refl
 with_minus true true q a b = rw (a refl)
 with_minus true false q a b = rw (and-false, lt-leb q 0 (b refl refl))
@@ -169,7 +169,7 @@ unfolding with_decimals
 decimals_least v l = omega arith
 
 -- an angle above 90 degrees is refused, however large it is
-six_above : (minus : Bool) (s x : ℕ) → 1000000000 ≤ x → by_six minus s x ≡ Refused
+six_above : (minus : Bool) (s x : ℕ) → 1000000000 ≤ x → by_six minus s x ≡ None
 six_above false s x h = rw (lt-leb (x / 15625) 5760 (omega arith), and-false)
 six_above true s x h = rw (lt-leb (x / 15625) 0 (omega arith), and-false)
 

@@ -1,7 +1,6 @@
 -- What the definitions of a line amount to, said another way: which fields a line has, which readings are an angle and what the bench makes of them, and how much of a line tells its
 -- meaning. Assumes nothing.
-use Rattle.std.specs.Prelude.{ℕ, suc, ◌*◌, ◌^◌, ◌≤◌, ◌≡◌, Bool, true, false, ◌&&◌, List, [], ◌∷◌, ◌++◌, take}
-use Rattle.arm.specs.declared.Reading.TheVariants.{Angle}
+use Rattle.std.specs.Prelude.{ℕ, suc, ◌*◌, ◌^◌, ◌≤◌, ◌≡◌, Bool, true, false, ◌&&◌, List, [], ◌∷◌, ◌++◌, take, Some}
 use Rattle.arm.specs.Shown.{reading_of}
 use Rattle.steplines.specs.Fields.{is_blank, fields}
 use Rattle.steplines.specs.Numbers.{angle_of, degrees_of}
@@ -22,8 +21,8 @@ pub record FieldsAre : Type 0 where
 
 -- d / 10 ^ k degrees are the angle m exactly if they are m 64ths, at most 90 degrees, and with a minus only if they are 0
 pub record AngleExactly (minus : Bool) (d k m : ℕ) : Type 0 where
-  pub is : angle_of minus d k ≡ Angle m → (m * 10 ^ k ≡ 64 * d) × (m ≤ 5760) × (minus ≡ true → d ≡ 0)
-  pub only : m * 10 ^ k ≡ 64 * d → m ≤ 5760 → (minus ≡ true → d ≡ 0) → angle_of minus d k ≡ Angle m
+  pub is : angle_of minus d k ≡ Some m → (m * 10 ^ k ≡ 64 * d) × (m ≤ 5760) × (minus ≡ true → d ≡ 0)
+  pub only : m * 10 ^ k ≡ 64 * d → m ≤ 5760 → (minus ≡ true → d ≡ 0) → angle_of minus d k ≡ Some m
 
 -- the bench makes of the step that a reading gives just this reading: an f32 holds every angle exactly, and what is no angle stays none
 abbrev pub BenchReads : Type 0

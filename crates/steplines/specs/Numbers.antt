@@ -1,9 +1,8 @@
 -- The numbers of a line: a whole number, and the arm's reading in decimal degrees. Neither has a limit of digits.
 -- Assumes nothing.
-use Rattle.std.specs.Prelude.{ℕ, ◌+◌, ◌-◌, ◌*◌, ◌/◌, ◌%◌, ◌^◌, Bool, true, false, cond, not, ◌&&◌, ◌||◌, List, [], ◌∷◌, ◌++◌, eqb, leb, Float, length, drop}
+use Rattle.arm.specs.Shown.{Reading}
+use Rattle.std.specs.Prelude.{ℕ, ◌+◌, ◌-◌, ◌*◌, ◌/◌, ◌%◌, ◌^◌, Bool, true, false, cond, not, ◌&&◌, ◌||◌, List, [], ◌∷◌, ◌++◌, eqb, leb, Float, length, drop, None, Some}
 use Rattle.settings.specs.Settings.{within}
-use Rattle.arm.specs.declared.Reading.{Reading}
-use Rattle.arm.specs.declared.Reading.TheVariants.{Angle, Refused}
 use Rattle.arm.specs.Angle.{degrees}
 use Rattle.steplines.specs.Fields.{begins}
 
@@ -67,7 +66,7 @@ is_reading whole decimals = is_number (whole ++ decimals)
 -- d / 10 ^ k degrees in 64ths: where 64 d is a multiple of 10 ^ k and the quotient is at most 5,760; with a minus only if d is 0
 unfoldable pub angle_of : Bool → ℕ → ℕ → Reading
 angle_of minus d k =
-    cond (eqb (64 * d % 10 ^ k) 0 && (leb (64 * d / 10 ^ k) 5760 && (not minus || eqb d 0))) (Angle (64 * d / 10 ^ k)) Refused
+    cond (eqb (64 * d % 10 ^ k) 0 && (leb (64 * d / 10 ^ k) 5760 && (not minus || eqb d 0))) (Some (64 * d / 10 ^ k)) None
 
 -- d the value of all digits as one number, and k the number of digits after the point
 abbrev pub angle_in : Bool → List ℕ → List ℕ → Reading
@@ -75,5 +74,5 @@ angle_in minus whole decimals = angle_of minus (value (whole ++ decimals)) (leng
 
 -- what the bench gets: the exact degrees, or 5,761 64ths, which it refuses by 12
 abbrev pub degrees_of : Reading → Float
-degrees_of (Angle k) = degrees k
-degrees_of Refused = degrees 5761
+degrees_of (Some k) = degrees k
+degrees_of None = degrees 5761

@@ -1,8 +1,7 @@
 -- What the code finds on its way through a line: where a field stands, and a number with the decimals that decide an angle. No meaning of a line rests
 -- on it. Assumes nothing.
-use Rattle.std.specs.Prelude.{ℕ, zero, suc, ◌+◌, ◌-◌, ◌*◌, ◌/◌, ◌%◌, ◌≤◌, ◌<◌, ◌≡◌, Bool, true, false, cond, not, ◌&&◌, List, [], ◌∷◌, eqb, leb, length, take, drop, get_or}
-use Rattle.arm.specs.declared.Reading.{Reading}
-use Rattle.arm.specs.declared.Reading.TheVariants.{Angle, Refused}
+use Rattle.arm.specs.Shown.{Reading}
+use Rattle.std.specs.Prelude.{ℕ, zero, suc, ◌+◌, ◌-◌, ◌*◌, ◌/◌, ◌%◌, ◌≤◌, ◌<◌, ◌≡◌, Bool, true, false, cond, not, ◌&&◌, List, [], ◌∷◌, eqb, leb, length, take, drop, get_or, None, Some}
 use Rattle.steplines.specs.declared.Field.{Field}
 use Rattle.steplines.specs.Fields.{is_blank, fields}
 
@@ -42,4 +41,4 @@ most_with minus = cond minus 0 5760
 
 -- the angle of x, a number with six decimals, and of s, what follows them: 15,625 are one 64th of 10 ^ 6
 abbrev pub by_six : Bool → ℕ → ℕ → Reading
-by_six minus s x = cond ((eqb s 0 && eqb (x % 15625) 0) && leb (x / 15625) (most_with minus)) (Angle (x / 15625)) Refused
+by_six minus s x = cond ((eqb s 0 && eqb (x % 15625) 0) && leb (x / 15625) (most_with minus)) (Some (x / 15625)) None

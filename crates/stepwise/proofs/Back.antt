@@ -13,11 +13,10 @@ use Rattle.arm.specs.declared.Command.TheVariants.{Up, Down}
 use Rattle.trains.specs.declared.Standing.{Standing}
 use Rattle.trains.specs.declared.Standing.TheVariants.{Away, Coming, Inside}
 use Rattle.trains.specs.declared.Entry.{Entry}
-use Rattle.trains.specs.declared.First.{First}
 use Rattle.trains.specs.declared.First.TheVariants.{Nobody, Train}
 use Rattle.trains.specs.Trains.{since}
 use Rattle.trains.specs.Table.{away_entry}
-use Rattle.trains.specs.First.{train_of}
+use Rattle.trains.specs.First.{First, train_of}
 use Rattle.cabinet.specs.declared.Cabinet.{Cabinet}
 use Rattle.bench.specs.declared.Bench.{Bench}
 use Rattle.stepwise.specs.Words.{command_from, command_number, kind_from, kind_as, standing_from, standing_number, entry_from, entry_in, entry_words, entries_from, entries_words, first_from, first_in, first_number, instant_of, first_words, settings_from, cabinet_from, cabinet_words, head_from, bench_from, cabinet_in, arm_words, bench_words}

@@ -1,4 +1,5 @@
 -- The calls on a bench, from what its own steps give. Assumes nothing.
+use Rattle.std.specs.Prelude.{Some, None, Option}
 use Prim.Native.Nat.{ℕ, ◌+◌, ◌%◌, ◌≤◌, ◌<◌}
 use native.Mathlib.Omega.{arith}
 use mathlib.Core.Path.{◌≡◌, refl, sym, ap, ap₂, ◌∙◌}
@@ -15,29 +16,21 @@ use Rattle.settings.specs.declared.Kind.{Kind}
 use Rattle.settings.specs.declared.Settings.{Settings}
 use Rattle.settings.specs.Values.{settings_of}
 use Rattle.arm.specs.declared.Command.TheVariants.{Up}
-use Rattle.arm.specs.declared.Reading.{Reading}
-use Rattle.arm.specs.declared.Reading.TheVariants.{Angle}
 use Rattle.arm.specs.Movement.{may_move}
 use Rattle.arm.specs.Shown as arm
-use Rattle.arm.specs.Shown.{reading_of}
-use Rattle.trains.specs.declared.Asked.{Asked}
-use Rattle.trains.specs.declared.First.{First}
+use Rattle.arm.specs.Shown.{reading_of, Reading}
 use Rattle.trains.specs.declared.Table.{Table}
 use Rattle.trains.specs.Table.{away_entry, fresh_table, place_for}
-use Rattle.trains.specs.First.{reached_by}
+use Rattle.trains.specs.First.{First, Asked, reached_by}
 use Rattle.cabinet.specs.declared.Order.{Order}
-use Rattle.cabinet.specs.declared.Order.TheVariants as order
 use Rattle.cabinet.specs.declared.Answer.TheVariants.{Taken, Refused}
 use Rattle.cabinet.specs.Cabinet.{number_of, order_of, later}
 use Rattle.bench.specs.declared.Event.{Event}
 use Rattle.bench.specs.declared.Event.TheVariants as events
 use Rattle.bench.specs.declared.Head.{Head}
 use Rattle.bench.specs.declared.Bench.{Bench}
-use Rattle.bench.specs.declared.Sensed.{Sensed}
-use Rattle.bench.specs.declared.Ticked.{Ticked}
-use Rattle.bench.specs.declared.Moved.{Moved}
 use Rattle.bench.specs.Bench as bench
-use Rattle.bench.specs.Bench.{fresh_bench, clock_refusal, head_ticked, head_sensed, asked_for, sensed, clock_read}
+use Rattle.bench.specs.Bench.{Sensed, Ticked, Moved, fresh_bench, clock_refusal, head_ticked, head_sensed, asked_for, sensed, clock_read}
 use Rattle.runs.specs.declared.Step.TheVariants as step
 use Rattle.runs.specs.Letters.{letter_of}
 use Rattle.runs.specs.Run.{or_else, or_full}
@@ -94,7 +87,7 @@ module _ (ws : List ℕ) (l : length ws ≡ 411) (b : Bench) (eb : b ≡ bench_f
   unfolding bench_senses bench_from
   event_called x w = lent_there 411 ws (train_number n) _ x l (w ∙ ap (λ (d : Bench). bench_train ws (place_for d.table n) (sensed d e n)) eb)
 
-  pub event_taken : (o : Order) (after : List ℕ) → h.answer ≡ Taken o → a.place < 96 → after ≡ put_event ws h.head a.place h.entry → called r after ≡ bench_senses ws e n
+  pub event_taken : (o : Option Order) (after : List ℕ) → h.answer ≡ Taken o → a.place < 96 → after ≡ put_event ws h.head a.place h.entry → called r after ≡ bench_senses ws e n
   unfolding bench_from
   event_taken o after t there w =
       let many : length b.table.places ≡ 96 = ap (λ (d : Bench). length d.table.places) eb ∙ entries_many ws 21 96 in
@@ -135,7 +128,7 @@ module _ (ws : List ℕ) (h : Head) (read : Reading) (eh : h ≡ head_from ws) (
   unfolding bench_from clock_read
   reads_called x e = e ∙ ap (λ (u : Ticked). answered u.answer (put_motion ws (order_of u.answer) u.motion) ws) (is ∙ ap (λ (g : Head). head_ticked g read) eh)
 
-  pub reads_taken : (o : Order) (x : Called) → t.answer ≡ Taken o → x ≡ called (packed_answer (Taken o)) (put_motion ws o t.motion) → x ≡ bench_reads ws read
+  pub reads_taken : (o : Option Order) (x : Called) → t.answer ≡ Taken o → x ≡ called (packed_answer (Taken o)) (put_motion ws o t.motion) → x ≡ bench_reads ws read
   reads_taken o x a e = reads_called x (e ∙ order_taken t.answer (λ p. put_motion ws p t.motion) ws o a)
 
   pub reads_refused : (k r : ℕ) → t.answer ≡ Refused k → r ≡ packed_answer t.answer → called r ws ≡ bench_reads ws read
@@ -166,10 +159,10 @@ module _ (ws : List ℕ) (angle : ℕ) where
       (ap (λ (g : Settings). may_move g Up (get_or ws 405 0 % 65536) angle) (sym es) ∙ sym em ∙ ok)
 
   pub reads_still : (after : List ℕ) → 411 ≤ length ws → StillTick (head_from ws) angle → after ≡ splice ws 405 (angle ∷ get_or ws 405 0 % 65536 ∷ []) →
-      called 0 (set after 15 (get_or ws 15 0 + 1)) ≡ bench_reads ws (Angle angle)
+      called 0 (set after 15 (get_or ws 15 0 + 1)) ≡ bench_reads ws (Some angle)
   unfolding head_from
   reads_still after l q e =
       let arm = angle ∷ get_or ws 405 0 % 65536 ∷ [] in
       let long : length (splice ws 405 arm) ≡ length ws = length_splice ws 405 arm (omega arith) in
-      reads_taken ws (head_from ws) (Angle angle) refl _ (sym q.gives) order.Nothing _ refl
-      (ap (λ (us : List ℕ). called 0 (set us 15 (get_or ws 15 0 + 1))) e ∙ clock_quiet (splice ws 405 arm) order.Nothing (later (control_from ws)) (omega arith) refl)
+      reads_taken ws (head_from ws) (Some angle) refl _ (sym q.gives) None _ refl
+      (ap (λ (us : List ℕ). called 0 (set us 15 (get_or ws 15 0 + 1))) e ∙ clock_quiet (splice ws 405 arm) None (later (control_from ws)) (omega arith) refl)

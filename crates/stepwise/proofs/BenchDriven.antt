@@ -1,4 +1,5 @@
 -- The words of a bench that only calls change, over every list of calls. Assumes nothing.
+use Rattle.std.specs.Prelude.{None, Some, Option}
 use Prim.Native.Nat.{ℕ, zero, suc, ◌+◌, ◌<◌}
 use native.Mathlib.Omega.{arith}
 use mathlib.Core.Path.{◌≡◌, refl, sym, ap, ◌∙◌}
@@ -14,14 +15,11 @@ use Rattle.settings.specs.declared.Settings.{Settings}
 use Rattle.settings.specs.Refusal.{unless}
 use Rattle.settings.specs.Settings.{settings_refusal}
 use Rattle.settings.proofs.Laws.{refuse_none, unless_has}
-use Rattle.arm.specs.declared.Reading.{Reading}
-use Rattle.arm.specs.declared.Reading.TheVariants.{Angle, Refused}
 use Rattle.arm.specs.Shown as arm
-use Rattle.arm.specs.Shown.{reading_of, is_allowed, angle_of}
+use Rattle.arm.specs.Shown.{reading_of, is_allowed, angle_of, Reading}
 use Rattle.trains.specs.declared.Entry.{Entry}
-use Rattle.trains.specs.declared.First.{First}
 use Rattle.trains.specs.Table.{away_entry, inside_entry, index_of, is_of, entry_of, place_for, put}
-use Rattle.trains.specs.First.{reached_by}
+use Rattle.trains.specs.First.{First, reached_by}
 use Rattle.trains.proofs.Laws.{place_room, train_says}
 use Rattle.cabinet.specs.declared.Order.{Order}
 use Rattle.cabinet.specs.declared.Answer.TheVariants as answers
@@ -31,10 +29,7 @@ use Rattle.cabinet.proofs.Laws.{approach_says}
 use Rattle.bench.specs.declared.Event.{Event}
 use Rattle.bench.specs.declared.Event.TheVariants as events
 use Rattle.bench.specs.declared.Bench.{Bench}
-use Rattle.bench.specs.declared.Sensed.{Sensed}
-use Rattle.bench.specs.declared.Ticked.{Ticked}
-use Rattle.bench.specs.declared.Moved.{Moved}
-use Rattle.bench.specs.Bench.{now_of, entry_at, stands_at, coming_now, fresh_head, fresh_bench, clock_refusal, turned, unticked, head_ticked, unsensed, head_looked, head_approached, head_occupied, head_left, head_sensed, asked_for, moved_by, sensed, with_motion, clock_read}
+use Rattle.bench.specs.Bench.{Sensed, Ticked, Moved, now_of, entry_at, stands_at, coming_now, fresh_head, fresh_bench, clock_refusal, turned, unticked, head_ticked, unsensed, head_looked, head_approached, head_occupied, head_left, head_sensed, asked_for, moved_by, sensed, with_motion, clock_read}
 use Rattle.bench.proofs.Laws.{occupy_says, coming_present, leave_says, inside_present}
 use Rattle.runs.specs.declared.Step.{Step}
 use Rattle.runs.specs.declared.Step.TheVariants.{Approach, Occupy, Leave, Clock}
@@ -67,8 +62,8 @@ clock_says b r e =
     (now.0, not-false (is_allowed r) (refuse_none (not (is_allowed r)) 11 latest.1).0)
 
 angle_small : (r : Reading) → is_allowed r ≡ true → angle_of r < 65536
-angle_small (Angle k) e = let l = leb-true k 5760 e in omega arith
-angle_small Refused e = absurd (false≢true e)
+angle_small (Some k) e = let l = leb-true k 5760 e in omega arith
+angle_small None e = absurd (false≢true e)
 
 module _ (b : Bench) (h : BenchHoldable b) where
   -- the words of what a step gives
@@ -87,7 +82,7 @@ module _ (b : Bench) (h : BenchHoldable b) where
     refused_writes entry k = record { words = refl; holdable = h }
 
     -- one that is taken leaves settings, ticks and arm
-    abbrev taking : Order → Control → First → First → Entry → Sensed
+    abbrev taking : Option Order → Control → First → First → Entry → Sensed
     taking o w soonest latest e =
         record {
           answer = answers.Taken o;
@@ -102,7 +97,7 @@ module _ (b : Bench) (h : BenchHoldable b) where
           entry = e;
         }
 
-    taken_writes : (o : Order) (w : Control) (soonest latest : First) (e : Entry) → place_for b.table n < 96 → e.number < 65536 → Writes (taking o w soonest latest e)
+    taken_writes : (o : Option Order) (w : Control) (soonest latest : First) (e : Entry) → place_for b.table n < 96 → e.number < 65536 → Writes (taking o w soonest latest e)
     unfolding put
     taken_writes o w soonest latest e there small =
         let l = h.table.entries in

@@ -1,4 +1,5 @@
 -- The calls on a cabinet, from what its own steps give. Assumes nothing.
+use Rattle.std.specs.Prelude.{None, Option}
 use Prim.Native.Nat.{ℕ, ◌+◌, ◌<◌}
 use native.Mathlib.Omega.{arith}
 use mathlib.Core.Path.{◌≡◌, refl, sym, ap, ◌∙◌}
@@ -16,24 +17,19 @@ use Rattle.settings.specs.declared.Ticks.{Ticks}
 use Rattle.settings.specs.Refusal.{unless}
 use Rattle.settings.specs.Values.{settings_of}
 use Rattle.settings.proofs.Laws.{unless_refused_law}
-use Rattle.trains.specs.declared.Asked.{Asked}
 use Rattle.trains.specs.declared.Entry.{Entry}
-use Rattle.trains.specs.declared.First.{First}
 use Rattle.trains.specs.declared.Found.{Found}
 use Rattle.trains.specs.declared.Table.{Table}
 use Rattle.trains.specs.declared.Question.TheVariants.{Due}
 use Rattle.trains.specs.Table.{away_entry, coming_entry, fresh_table, standing_of, no_place, place_for, found_for, put}
-use Rattle.trains.specs.First.{own_of, earlier_of, reached_by, rest_of, asked_of}
+use Rattle.trains.specs.First.{First, Asked, own_of, earlier_of, reached_by, rest_of, asked_of}
 use Rattle.trains.proofs.Laws.{place_room}
 use Rattle.arm.specs.declared.Command.TheVariants.{Up, Down}
 use Rattle.cabinet.specs.declared.Order.{Order}
-use Rattle.cabinet.specs.declared.Order.TheVariants as orders
 use Rattle.cabinet.specs.declared.Answer.TheVariants.{Taken, Refused}
 use Rattle.cabinet.specs.declared.Control.{Control}
-use Rattle.cabinet.specs.declared.Controlled.{Controlled}
 use Rattle.cabinet.specs.declared.Cabinet.{Cabinet}
-use Rattle.cabinet.specs.declared.Stepped.{Stepped}
-use Rattle.cabinet.specs.Cabinet.{number_of, order_of, fresh_cabinet, started, refused, approach_refusal, leave_refusal, order, looked_at, looked, placed, later, ticked, approached, left, clocked}
+use Rattle.cabinet.specs.Cabinet.{Stepped, Controlled, number_of, order_of, fresh_cabinet, started, refused, approach_refusal, leave_refusal, order, looked_at, looked, placed, later, ticked, approached, left, clocked}
 use Rattle.cabinet.proofs.Laws.{approach_says, leave_says}
 use Rattle.runs.specs.Claims as heard
 use Rattle.runs.specs.Letters.{letter_of}
@@ -179,7 +175,7 @@ module _ (ws : List ℕ) (l : length ws ≡ 405) (s : Settings) (ticks : Ticks) 
       let words : t ≡ ticked (settings_from ws) (ticks_from ws) (first_in ws soonest_at) (control_from ws) = is ∙ rw (es, et, ef, ew) in
       lent_there 405 ws 0 _ x l (e ∙ ap (λ (u : Controlled). answered u.answer (put_clock ws (order_of u.answer) u.control) ws) words)
 
-  pub clock_taken : (o : Order) (x : Called) → t.answer ≡ Taken o → x ≡ called (packed_answer (Taken o)) (put_clock ws o t.control) → x ≡ cabinet_called ws ticking
+  pub clock_taken : (o : Option Order) (x : Called) → t.answer ≡ Taken o → x ≡ called (packed_answer (Taken o)) (put_clock ws o t.control) → x ≡ cabinet_called ws ticking
   clock_taken o x a e = clock_called x (e ∙ order_taken t.answer (λ p. put_clock ws p t.control) ws o a)
 
   pub clock_refused : (k r : ℕ) → t.answer ≡ Refused k → r ≡ packed_answer t.answer → called r ws ≡ cabinet_called ws ticking
@@ -200,4 +196,4 @@ quiet_words ws ticks f t up l et ef is none =
 pub clock_still : (ws : List ℕ) → length ws ≡ 405 → (ticks : Ticks) (f : First) (w : Control) → ticks ≡ ticks_from ws → f ≡ first_in ws soonest_at → w ≡ control_from ws → QuietTick ticks f w →
     called 0 (set ws 15 (w.now + 1)) ≡ cabinet_called ws ticking
 clock_still ws l ticks f w et ef ew q =
-    clock_taken ws l (settings_from ws) ticks f w refl et ef ew _ (sym (q.gives (settings_from ws))) orders.Nothing _ refl (clock_quiet ws orders.Nothing (later w) (omega arith) refl)
+    clock_taken ws l (settings_from ws) ticks f w refl et ef ew _ (sym (q.gives (settings_from ws))) None _ refl (clock_quiet ws None (later w) (omega arith) refl)

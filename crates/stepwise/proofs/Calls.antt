@@ -1,4 +1,5 @@
 -- What a call answers and leaves, from what the functions that it calls give. Assumes nothing.
+use Rattle.std.specs.Prelude.{None, Some, Option}
 use Prim.Native.Nat.{ℕ, zero, suc, ◌≤◌}
 use native.Mathlib.Omega.{arith}
 use mathlib.Core.Path.{◌≡◌, refl, sym, ap, ◌∙◌}
@@ -42,7 +43,7 @@ lent_held many ws own gives read held x l p e = sym (lent_there many ws own (giv
 -- ---- a step taken, and one refused
 
 module _ (a : Answer) (new ws : List ℕ) (r : ℕ) (packed : r ≡ packed_answer a) where
-  pub answered_taken : (o : Order) (after : List ℕ) → a ≡ Taken o → after ≡ new → called r after ≡ answered a new ws
+  pub answered_taken : (o : Option Order) (after : List ℕ) → a ≡ Taken o → after ≡ new → called r after ≡ answered a new ws
   answered_taken o after t e = rw (packed, t, e)
 
   pub answered_refused : (k : ℕ) → a ≡ Refused k → called r ws ≡ answered a new ws
@@ -53,18 +54,18 @@ pub refused_packed : (k : ℕ) → packed_answer (Refused k) ≡ k
 refused_packed k = omega arith
 
 -- one taken, whose words are by the order that is given
-pub order_taken : (a : Answer) (new : Order → List ℕ) (ws : List ℕ) (o : Order) → a ≡ Taken o → called (packed_answer (Taken o)) (new o) ≡ answered a (new (order_of a)) ws
+pub order_taken : (a : Answer) (new : Option Order → List ℕ) (ws : List ℕ) (o : Option Order) → a ≡ Taken o → called (packed_answer (Taken o)) (new o) ≡ answered a (new (order_of a)) ws
 order_taken a new ws o t = rw t
 
 -- a clock step taken, by its order
-module _ (ws : List ℕ) (o : Order) (w : Control) where
-  pub clock_quiet : 16 ≤ length ws → o ≡ order.Nothing → called 0 (set ws 15 w.now) ≡ called (packed_answer (Taken o)) (put_clock ws o w)
+module _ (ws : List ℕ) (o : Option Order) (w : Control) where
+  pub clock_quiet : 16 ≤ length ws → o ≡ None → called 0 (set ws 15 w.now) ≡ called (packed_answer (Taken o)) (put_clock ws o w)
   clock_quiet l e = rw e (ap (called 0) (splice_one ws 15 w.now (omega arith)))
 
-  pub clock_lowers : (n r : ℕ) (after : List ℕ) → o ≡ order.Lower n → after ≡ put_control ws w → r ≡ packed_answer (Taken o) → called r after ≡ called (packed_answer (Taken o)) (put_clock ws o w)
+  pub clock_lowers : (n r : ℕ) (after : List ℕ) → o ≡ Some (order.Lower n) → after ≡ put_control ws w → r ≡ packed_answer (Taken o) → called r after ≡ called (packed_answer (Taken o)) (put_clock ws o w)
   clock_lowers n r after e p q = rw (q, p, e)
 
-  pub clock_raises : (r : ℕ) (after : List ℕ) → o ≡ order.Raise → after ≡ put_control ws w → r ≡ packed_answer (Taken o) → called r after ≡ called (packed_answer (Taken o)) (put_clock ws o w)
+  pub clock_raises : (r : ℕ) (after : List ℕ) → o ≡ (Some order.Raise) → after ≡ put_control ws w → r ≡ packed_answer (Taken o) → called r after ≡ called (packed_answer (Taken o)) (put_clock ws o w)
   clock_raises r after e p q = rw (q, p, e)
 
 -- ---- an approach whose letter names a kind, and one whose letter names none

@@ -1,4 +1,5 @@
 -- A packed answer is taken apart again, and a call whose answer has a refusal number keeps every word. Assumes nothing.
+use Rattle.std.specs.Prelude.{None, Some}
 use Prim.Native.Nat.{ℕ, ◌+◌, ◌*◌, ◌/◌, ◌%◌, ◌<◌}
 use native.Mathlib.Nat.{mod-eq_of_lt, div-eq_of_lt, add-mul-div_left, add-mul-mod_self_left}
 use native.Mathlib.Omega.{arith}
@@ -11,15 +12,13 @@ use lib.ListN.{length}
 use Rattle.arm.specs.Shown as arm
 use Rattle.arm.specs.Shown.{reading_of}
 use Rattle.trains.specs.Table.{place_for}
-use Rattle.cabinet.specs.declared.Order.TheVariants.{Nothing, Lower, Raise}
+use Rattle.cabinet.specs.declared.Order.TheVariants.{Lower, Raise}
 use Rattle.cabinet.specs.declared.Answer.{Answer}
 use Rattle.cabinet.specs.declared.Answer.TheVariants.{Taken, Refused}
-use Rattle.cabinet.specs.declared.Stepped.{Stepped}
-use Rattle.cabinet.specs.Cabinet.{number_of, approached, left, clocked, order_of}
+use Rattle.cabinet.specs.Cabinet.{Stepped, number_of, approached, left, clocked, order_of}
 use Rattle.bench.specs.declared.Event.{Event}
 use Rattle.bench.specs.declared.Event.TheVariants as events
-use Rattle.bench.specs.declared.Moved.{Moved}
-use Rattle.bench.specs.Bench.{sensed, clock_read}
+use Rattle.bench.specs.Bench.{Moved, sensed, clock_read}
 use Rattle.runs.specs.Claims.{Heard, approaching, leaving, ticking}
 use Rattle.runs.specs.declared.Step.{Step}
 use Rattle.runs.specs.declared.Step.TheVariants.{Approach, Occupy, Leave, Clock}
@@ -33,9 +32,9 @@ use Rattle.stepwise.specs.Driven.{RefusalsKeep}
 -- ---- a number, a letter and a train
 
 letter_small : (a : Answer) → answer_byte a < 256
-letter_small (Taken Nothing) = omega arith
-letter_small (Taken (Lower n)) = omega arith
-letter_small (Taken Raise) = omega arith
+letter_small (Taken None) = omega arith
+letter_small (Taken (Some (Lower n))) = omega arith
+letter_small (Taken (Some Raise)) = omega arith
 letter_small (Refused k) = omega arith
 
 module _ (n b t : ℕ) (hn : n < 256) (hb : b < 256) where

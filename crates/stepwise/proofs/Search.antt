@@ -8,15 +8,14 @@ use lib.Dec.{eqb}
 use lib.ListN.{get_or, get_or-eq_default}
 use Rattle.trains.specs.declared.Standing.TheVariants.{Away, Coming, Inside}
 use Rattle.trains.specs.declared.Entry.{Entry}
-use Rattle.trains.specs.declared.First.{First}
-use Rattle.trains.specs.declared.First.TheVariants.{Nobody}
 use Rattle.trains.specs.Trains.{is_present}
 use Rattle.trains.specs.Table.{away_entry, is_of, is_free, index_of, entry_of, place_for, found_for}
-use Rattle.trains.specs.First.{earlier_of, first_of}
+use Rattle.trains.specs.First.{First, earlier_of, first_of}
 use Rattle.trains.proofs.Lists.{index_passes}
 use Rattle.trains.proofs.Laws.{index_place}
 use Rattle.stepwise.specs.Words.{standing_from, entry_in, entries_from, table_from}
 use Rattle.stepwise.proofs.Words.{entries_many}
+use Rattle.std.specs.Prelude.{None}
 
 -- ---- an entry by its words
 
@@ -90,7 +89,7 @@ module _ (own : Entry → First) (ws : List ℕ) where
   abbrev pub first_from : ℕ → First
   first_from place = first_of own (entries_from ws (21 + 4 * place) (96 - place))
 
-  pub first_end : first_from 96 ≡ Nobody
+  pub first_end : first_from 96 ≡ None
   unfolding entries_from
   first_end = refl
 

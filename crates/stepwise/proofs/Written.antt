@@ -1,4 +1,5 @@
 -- What a step writes into the words of a cabinet or a bench makes them the words of the cabinet or the bench after it. Assumes nothing.
+use Rattle.std.specs.Prelude.{None, Some, Option}
 use Prim.Native.Nat.{ℕ, suc, ◌+◌, ◌*◌, ◌<◌}
 use native.Mathlib.Omega.{arith}
 use mathlib.Core.Path.{◌≡◌, refl, sym, ap, ap₂, ◌∙◌}
@@ -7,7 +8,7 @@ use lib.ListN.{length, take, drop, get_or, set, length-set, length-append, take-
 use lib.Seq.{drop-cons, take_at, drop_at, set_split, length-take-le}
 use Rattle.lines.specs.Bytes.{splice}
 use Rattle.trains.specs.declared.Entry.{Entry}
-use Rattle.trains.specs.declared.First.{First}
+use Rattle.trains.specs.First.{First}
 use Rattle.trains.specs.Table.{away_entry}
 use Rattle.cabinet.specs.declared.Order.{Order}
 use Rattle.cabinet.specs.declared.Order.TheVariants as order
@@ -77,21 +78,21 @@ module _ (c : Cabinet) (rest : List ℕ) (w : Control) where
 
 module _ (c : Cabinet) (rest : List ℕ) (now : ℕ) where
   -- the clock, and the command after an order
-  abbrev pub ordered_to : Order → Control
+  abbrev pub ordered_to : Option Order → Control
   ordered_to o = record { now = now; command = command_after o c.control.command }
 
   -- where none is given, the command's word is already the one that stays
-  pub clock_written : (o : Order) → put_clock (cabinet_words c ++ rest) o (ordered_to o) ≡ cabinet_words (clocked_to c rest (ordered_to o)) ++ rest
+  pub clock_written : (o : Option Order) → put_clock (cabinet_words c ++ rest) o (ordered_to o) ≡ cabinet_words (clocked_to c rest (ordered_to o)) ++ rest
   unfolding cabinet_words
-  clock_written order.Nothing = refl
-  clock_written (order.Lower n) = refl
-  clock_written order.Raise = refl
+  clock_written None = refl
+  clock_written (Some (order.Lower n)) = refl
+  clock_written (Some order.Raise) = refl
 
 -- ---- a bench's
 
 module _ (b : Bench) (many : length b.table.places ≡ 96) where
   -- the arm, and the clock and the command after an order
-  pub motion_written : (now angle previous : ℕ) (o : Order) →
+  pub motion_written : (now angle previous : ℕ) (o : Option Order) →
       let m : Motion = record { control = ordered_to (cabinet_in b) [] now o; angle = angle; previous = previous } in
       put_motion (bench_words b) o m
       ≡ bench_words (record { head = record { settings = b.head.settings; ticks = b.head.ticks; motion = m; soonest = b.head.soonest; latest = b.head.latest }; table = b.table })

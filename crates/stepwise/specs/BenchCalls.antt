@@ -3,15 +3,13 @@ use Rattle.std.specs.Prelude.{ℕ, List, eqb, Float, length}
 use Rattle.std.proofs.Math.Option.{Option, some}
 use Rattle.settings.specs.declared.Settings.{Settings}
 use Rattle.settings.specs.Settings.{settings_refusal}
-use Rattle.arm.specs.declared.Reading.{Reading}
 use Rattle.arm.specs.Shown as arm
-use Rattle.arm.specs.Shown.{reading_of}
+use Rattle.arm.specs.Shown.{reading_of, Reading}
 use Rattle.trains.specs.Table.{place_for}
 use Rattle.cabinet.specs.Cabinet.{order_of}
 use Rattle.bench.specs.declared.Event.{Event}
 use Rattle.bench.specs.declared.Event.TheVariants as events
-use Rattle.bench.specs.declared.Moved.{Moved}
-use Rattle.bench.specs.Bench.{fresh_bench, sensed, clock_read}
+use Rattle.bench.specs.Bench.{Moved, fresh_bench, sensed, clock_read}
 use Rattle.runs.specs.declared.Step.{Step}
 use Rattle.runs.specs.declared.Step.TheVariants as step
 use Rattle.runs.specs.Letters.{letter_of}

@@ -5,10 +5,9 @@ use Rattle.settings.specs.declared.Kind.{Kind}
 use Rattle.settings.specs.declared.Settings.{Settings}
 use Rattle.settings.specs.Settings.{settings_refusal}
 use Rattle.trains.specs.declared.Entry.{Entry}
-use Rattle.trains.specs.declared.First.{First}
+use Rattle.trains.specs.First.{First}
 use Rattle.trains.specs.Table.{place_for}
-use Rattle.cabinet.specs.declared.Stepped.{Stepped}
-use Rattle.cabinet.specs.Cabinet.{order_of, fresh_cabinet, looked_at, approached, left, clocked}
+use Rattle.cabinet.specs.Cabinet.{Stepped, order_of, fresh_cabinet, looked_at, approached, left, clocked}
 use Rattle.runs.specs.Letters.{letter_of}
 use Rattle.runs.specs.Claims as heard
 use Rattle.runs.specs.Claims.{Heard}

@@ -1,7 +1,7 @@
 -- One call a step, on words that the caller lends: how it answers, and what words it changes.
 -- A call whose words are not as many as they should be is refused, 14 last, after the number that is found without them; an approach whose letter is not the
 -- record's A, B, E or F is no step, and is refused before all else, 15. A refusal keeps every word. Assumes nothing.
-use Rattle.std.specs.Prelude.{ℕ, ◌+◌, ◌*◌, ◌/◌, ◌%◌, ◌<◌, ◌≡◌, Bool, cond, not, List, [], ◌∷◌, eqb, length, get_or}
+use Rattle.std.specs.Prelude.{ℕ, ◌+◌, ◌*◌, ◌/◌, ◌%◌, ◌<◌, ◌≡◌, Bool, cond, not, List, [], ◌∷◌, eqb, length, get_or, Some, None}
 use Rattle.std.proofs.Math.Option.{Option, none, some}
 use Rattle.lines.specs.Bytes.{splice}
 use Rattle.settings.specs.declared.Kind.{Kind}
@@ -9,9 +9,8 @@ use Rattle.settings.specs.declared.Settings.{Settings}
 use Rattle.settings.specs.declared.Ticks.{Ticks}
 use Rattle.settings.specs.Refusal.{refuse, unless}
 use Rattle.arm.specs.declared.Command.TheVariants.{Up}
-use Rattle.arm.specs.declared.Reading.TheVariants.{Angle}
 use Rattle.trains.specs.declared.Entry.{Entry}
-use Rattle.trains.specs.declared.First.{First}
+use Rattle.trains.specs.First.{First}
 use Rattle.trains.specs.declared.Table.{Table}
 use Rattle.trains.specs.Trains.{is_train}
 use Rattle.trains.specs.Table.{away_entry, is_of, is_free}
@@ -86,27 +85,27 @@ started_by k new ws = called k (unless k (λ j. ws) new)
 pub record QuietTick (ticks : Ticks) (soonest : First) (w : Control) : Type 0 where
   pub goes_on : w.now < 9999999
   pub up : w.command ≡ Up
-  pub gives : (s : Settings) → ticked s ticks soonest w ≡ record { answer = Taken order.Nothing; control = later w }
+  pub gives : (s : Settings) → ticked s ticks soonest w ≡ record { answer = Taken None; control = later w }
 
 -- a bench's with this angle is taken and gives no command: the instant and the arm's angles are all that it changes
 pub record StillTick (h : Head) (angle : ℕ) : Type 0 where
   pub goes_on : h.motion.control.now < 9999999
-  pub gives : head_ticked h (Angle angle)
-      ≡ record { answer = Taken order.Nothing; motion = record { control = later h.motion.control; angle = angle; previous = h.motion.angle } }
+  pub gives : head_ticked h (Some angle)
+      ≡ record { answer = Taken None; motion = record { control = later h.motion.control; angle = angle; previous = h.motion.angle } }
 
 -- ---- what a step that is taken writes
 
 -- a clock step: the instant, and the command where one is given
-abbrev pub clock_words : Order → Control → List ℕ
-clock_words order.Nothing w = w.now ∷ []
-clock_words (order.Lower n) w = control_words w
-clock_words order.Raise w = control_words w
+abbrev pub clock_words : Option Order → Control → List ℕ
+clock_words None w = w.now ∷ []
+clock_words (Some (order.Lower n)) w = control_words w
+clock_words (Some order.Raise) w = control_words w
 
-abbrev pub put_clock : List ℕ → Order → Control → List ℕ
+abbrev pub put_clock : List ℕ → Option Order → Control → List ℕ
 put_clock ws o w = splice ws control_at (clock_words o w)
 
 -- a bench's, the arm too
-abbrev pub put_motion : List ℕ → Order → Motion → List ℕ
+abbrev pub put_motion : List ℕ → Option Order → Motion → List ℕ
 put_motion ws o m = put_clock (splice ws arm_at (arm_words m.angle m.previous)) o m.control
 
 -- instant and command

@@ -13,10 +13,9 @@ use Rattle.trains.specs.declared.Standing.{Standing}
 use Rattle.trains.specs.declared.Standing.TheVariants.{Away, Coming, Inside}
 use Rattle.trains.specs.declared.Entry.{Entry}
 use Rattle.trains.specs.declared.Table.{Table}
-use Rattle.trains.specs.declared.First.{First}
 use Rattle.trains.specs.declared.First.TheVariants.{Nobody, Train}
 use Rattle.trains.specs.Trains.{since}
-use Rattle.trains.specs.First.{train_of}
+use Rattle.trains.specs.First.{First, train_of}
 use Rattle.cabinet.specs.declared.Control.{Control}
 use Rattle.cabinet.specs.declared.Cabinet.{Cabinet}
 use Rattle.bench.specs.declared.Head.{Head}

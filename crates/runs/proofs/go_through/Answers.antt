@@ -1,13 +1,13 @@
+use Rattle.std.specs.Prelude.{Option}
 use Rattle.std.proofs.Common.{◌≡◌, ℕ, ◌<◌, true, sym, ap, ◌∙◌, arith}
 use Rattle.std.proofs.lemmas.Bool.{true≢false}
-use Rattle.trains.specs.declared.Asked.{Asked}
 use Rattle.trains.specs.Trains.{is_present}
+use Rattle.trains.specs.First.{Asked}
 use Rattle.cabinet.specs.declared.Order.{Order}
 use Rattle.cabinet.specs.declared.Answer.TheVariants.{Taken}
 use Rattle.bench.specs.declared.Event.{Event}
 use Rattle.bench.specs.declared.Head.{Head}
-use Rattle.bench.specs.declared.Sensed.{Sensed}
-use Rattle.bench.specs.Bench.{head_sensed, head_ticked}
+use Rattle.bench.specs.Bench.{Sensed, head_sensed, head_ticked}
 use Rattle.runs.specs.declared.Feed.TheVariants.{ToBench}
 use Rattle.runs.specs.Letters.{is_step}
 use Rattle.runs.proofs.Letters.{none_step}
@@ -17,7 +17,7 @@ use Rattle.runs.proofs.Onward.{turn_taken, turn_refused, turn_clock, bench_end}
 use Rattle.runs.proofs.go_through.Goals as goal
 
 -- a train's event that is taken has a place
-place : (h : Head) (n : ℕ) (a : Asked) (e : Event) (s : Sensed) (o : Order) → (is_present a.entry.standing ≡ true → a.place < 96) → s ≡ head_sensed h e n a → s.answer ≡ Taken o → a.place < 96
+place : (h : Head) (n : ℕ) (a : Asked) (e : Event) (s : Sensed) (o : Option Order) → (is_present a.entry.standing ≡ true → a.place < 96) → s ≡ head_sensed h e n a → s.answer ≡ Taken o → a.place < 96
 place h n a e s o within is t = taken_place h n a within o e (ap (λ (x : Sensed). x.answer) (sym is) ∙ t)
 
 pub offset_bounds-table-at : goal.offset_bounds-table-at

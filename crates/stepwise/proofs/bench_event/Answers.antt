@@ -1,6 +1,6 @@
 use Rattle.std.proofs.Common.{refl, sym, ap, ◌∙◌, ◌<◌}
 use Rattle.bench.specs.declared.Bench.{Bench}
-use Rattle.bench.specs.declared.Sensed.{Sensed}
+use Rattle.bench.specs.Bench.{Sensed}
 use Rattle.runs.proofs.Turns.{asked_by, taken_place}
 use Rattle.stepwise.specs.Words.{table_from}
 use Rattle.stepwise.proofs.BenchCalls.{held_is, event_taken}
