@@ -743,7 +743,7 @@ fn show_to_new<R: Print>(rt: &R, text: &[u8]) {
 // The sample with this line in place of its own from byte `at` on.
 fn show_old_with<R: Print>(rt: &R, at: usize, n: u32, letter: u8, m: u32) {
     let mut text = OLD_SAMPLE;
-    lines::put_line(&mut text, at, 4, n, letter, m);
+    let _ = lines::put_line(&mut text, at, 4, n, letter, m);
     show_to_new(rt, &text);
 }
 
@@ -769,7 +769,7 @@ fn show_to_old<R: Print>(rt: &R, text: &[u8]) {
 
 // A record like the sample's new form, with this line in place of its own from byte `at` on.
 fn show_new_with<R: Print>(rt: &R, mut text: [u8; 400], at: usize, n: u32, letter: u8, m: u32) {
-    lines::put_line(&mut text, at, 5, n, letter, m);
+    let _ = lines::put_line(&mut text, at, 5, n, letter, m);
     show_to_old(rt, &text);
 }
 

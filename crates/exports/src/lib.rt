@@ -316,7 +316,7 @@ pub extern "C" fn weqhaso_record(
     let answer = r.answer;
     let recorder = r.recorder;
     let k = runs::number_byte(answer);
-    let line = lines::line_bytes(recorder::CURRENT);
+    let line = recorder::CURRENT.line_bytes();
     let bytes = if k == 0 { recorder.at + line } else { 0 };
     ((bytes as u64) % 72057594037927936) * 256 + (k as u64)
 }

@@ -30,8 +30,8 @@ fn write_row(out: &mut [u8], at: usize, n: u32, m: u32, letter: u8)
     requires { (at + 19 ≤ length out.old) × (n < 100000000) × (m < 100000000) }
     ensures { out.new ≡ splice out.old at (report_line n m letter) }
 {
-    lines::put_number(out, at, 8, n);
-    lines::put_number(out, at + 8, 8, m);
+    let _ = lines::put_number(out, at, 8, n);
+    let _ = lines::put_number(out, at + 8, 8, m);
     out[at + 16] = b' ';
     out[at + 17] = letter;
     out[at + 18] = b'\n';

@@ -79,8 +79,8 @@ fn place(line: usize, column: usize) -> usize {
 // The sample with other bytes from a line's column on.
 fn changed<R: Print>(rt: &R, name: &[u8], sample: &[u8], line: usize, column: usize, bytes: &[u8]) {
     let mut text = [0u8; 400];
-    lines::put_bytes(&mut text, 0, sample);
-    lines::put_bytes(&mut text, place(line, column), bytes);
+    let _ = lines::put_bytes(&mut text, 0, sample);
+    let _ = lines::put_bytes(&mut text, place(line, column), bytes);
     show(rt, name, &text);
 }
 
@@ -94,8 +94,8 @@ fn cut<R: Print>(rt: &R, name: &[u8], text: &[u8], n: usize) {
 // The sample with bytes after it.
 fn longer<R: Print>(rt: &R, name: &[u8], sample: &[u8], bytes: &[u8]) {
     let mut text = [0u8; 416];
-    lines::put_bytes(&mut text, 0, sample);
-    lines::put_bytes(&mut text, 400, bytes);
+    let _ = lines::put_bytes(&mut text, 0, sample);
+    let _ = lines::put_bytes(&mut text, 400, bytes);
     if bytes.len() <= 16 {
         cut(rt, name, &text, 400 + bytes.len());
     }
@@ -112,8 +112,8 @@ fn without<R: Print>(rt: &R, name: &[u8], sample: &[u8], first: usize, next: usi
         return;
     }
     let mut text = [0u8; 400];
-    lines::put_bytes(&mut text, 0, sample);
-    lines::put_bytes(&mut text, from, &sample[to..]);
+    let _ = lines::put_bytes(&mut text, 0, sample);
+    let _ = lines::put_bytes(&mut text, from, &sample[to..]);
     cut(rt, name, &text, sample.len() - (to - from));
 }
 
