@@ -1,4 +1,5 @@
 -- The cabinet on its way through a list of what it hears: the loop's beginning, a turn and its end; and the whole run. Assumes nothing.
+use Rattle.std.specs.Prelude.{None, Some, Option}
 use Prim.Native.Nat.{ℕ, zero, suc, ◌+◌, ◌≤◌, ◌<◌}
 use native.Mathlib.Numerals.{add-one}
 use native.Mathlib.Omega.{arith}
@@ -25,13 +26,13 @@ use Rattle.alone.specs.Alone.{heard_by, heard_of, hearing, AloneRan}
 -- ---- letters
 
 -- a letter that is heard stands for one thing
-heard_one : (w : Letter) (n : ℕ) → is_heard w ≡ true → (x : Heard) × (heard_by w n ≡ x ∷ [])
-heard_one (letter.Event (events.Approach k)) n h = (approaching k n, refl)
-heard_one (letter.Event events.Occupy) n h = absurd (false≢true h)
-heard_one (letter.Event events.Leave) n h = (leaving n, refl)
-heard_one letter.Clock n h = (ticking, refl)
-heard_one (letter.Command k) n h = absurd (false≢true h)
-heard_one letter.None n h = absurd (false≢true h)
+heard_one : (w : Option Letter) (n : ℕ) → is_heard w ≡ true → (x : Heard) × (heard_by w n ≡ x ∷ [])
+heard_one (Some (letter.Event (events.Approach k))) n h = (approaching k n, refl)
+heard_one (Some (letter.Event events.Occupy)) n h = absurd (false≢true h)
+heard_one (Some (letter.Event events.Leave)) n h = (leaving n, refl)
+heard_one (Some letter.Clock) n h = (ticking, refl)
+heard_one (Some (letter.Command k)) n h = absurd (false≢true h)
+heard_one None n h = absurd (false≢true h)
 
 -- ---- the list from place i on
 
@@ -60,13 +61,13 @@ module _ {ls ns : List ℕ} {old : Told} {first : Cabinet}
     (long : Beside ToCabinet ls (length ns) (length ns) (length old.answers) (length old.orders) (length old.named))
     {new : Told} {c : Cabinet} {i : ℕ} (t : Hearing ls ns old first new c i) where
   -- a turn: the letter as read, and what the cabinet makes of it
-  pub hearing_next : i < length ls → {w : Letter} → w ≡ letter_of (get_or ls i 0) → {m : Stepped} → m ≡ hearing c (heard_by w (get_or ns i 0)) →
+  pub hearing_next : i < length ls → {w : Option Letter} → w ≡ letter_of (get_or ls i 0) → {m : Stepped} → m ≡ hearing c (heard_by w (get_or ns i 0)) →
       {u v z : ℕ} → u ≡ number_of m.answer → v ≡ answer_byte m.answer → z ≡ answer_train m.answer →
       Hearing ls ns old first (told_at new i u v z) m.cabinet (i + 1)
   hearing_next less {w} is {m} e p q r =
       let one = heard_one w (get_or ns i 0) (ap is_heard is ∙ letter_at ToCabinet ls i long.belong less) in
       let step : m ≡ cabinet_stepped c one.0 = e ∙ ap (hearing c) one.1 in
-      let by : heard_by (letter_of (get_or ls i 0)) (get_or ns i 0) ≡ one.0 ∷ [] = ap (λ (v : Letter). heard_by v (get_or ns i 0)) (sym is) ∙ one.1 in
+      let by : heard_by (letter_of (get_or ls i 0)) (get_or ns i 0) ≡ one.0 ∷ [] = ap (λ (v : Option Letter). heard_by v (get_or ns i 0)) (sym is) ∙ one.1 in
       let rest = heard_next ls ns i less (omega (arith, long.by_numbers)) ∙ ap (λ (xs : List Heard). xs ++ heard_from ls ns (i + 1)) by in
       record {
         went = went_next t.went (told_long long) less rest

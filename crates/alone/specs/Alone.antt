@@ -1,7 +1,7 @@
 -- A cabinet alone and a list of what it hears that lies in lent slices: what `run` writes and gives back (document 01, "Cabinet": it hears
 -- approach, leave and clock, never occupy or the arm). Decides beyond it, as `runs::run` does: the letters are the record's, A, B, E, F, L and T; a list
 -- with any other letter is refused as a whole, 15, and slices that are shorter than the letters, 14, after it. Assumes nothing.
-use Rattle.std.specs.Prelude.{ℕ, zero, suc, ◌≡◌, List, [], ◌∷◌, ◌++◌, map}
+use Rattle.std.specs.Prelude.{ℕ, zero, suc, ◌≡◌, List, [], ◌∷◌, ◌++◌, map, None, Some, Option}
 use Rattle.settings.specs.declared.Settings.{Settings}
 use Rattle.settings.specs.declared.Verdict.TheVariants.{Taken, Refused}
 use Rattle.cabinet.specs.declared.Cabinet.{Cabinet}
@@ -18,13 +18,13 @@ use Rattle.alone.specs.declared.Ended.{Ended}
 -- ---- the list
 
 -- what a letter stands for, with this train number: one thing that a cabinet hears, or nothing
-abbrev pub heard_by : Letter → ℕ → List Heard
-heard_by (letter.Event (events.Approach k)) n = approaching k n ∷ []
-heard_by (letter.Event events.Occupy) n = []
-heard_by (letter.Event events.Leave) n = leaving n ∷ []
-heard_by letter.Clock n = ticking ∷ []
-heard_by (letter.Command k) n = []
-heard_by letter.None n = []
+abbrev pub heard_by : Option Letter → ℕ → List Heard
+heard_by (Some (letter.Event (events.Approach k))) n = approaching k n ∷ []
+heard_by (Some (letter.Event events.Occupy)) n = []
+heard_by (Some (letter.Event events.Leave)) n = leaving n ∷ []
+heard_by (Some letter.Clock) n = ticking ∷ []
+heard_by (Some (letter.Command k)) n = []
+heard_by None n = []
 
 -- what the letters stand for, each with the number beside it
 unfoldable pub heard_of : List ℕ → List ℕ → List Heard

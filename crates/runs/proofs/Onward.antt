@@ -1,6 +1,6 @@
 -- The bench on its way through a list, its numbers, its commands and the trains of its lowers written: the loop's beginning, its turns (an event that is taken, one that is
 -- refused, and a clock step, from what the code has at each) and its end. Assumes nothing.
-use Rattle.std.specs.Prelude.{Option}
+use Rattle.std.specs.Prelude.{Option, Some}
 use Prim.Native.Nat.{ℕ, ◌+◌, ◌≤◌, ◌<◌}
 use mathlib.Core.Path.{◌≡◌, refl, sym, ap, ◌∙◌}
 use mathlib.Core.List.{List}
@@ -51,7 +51,7 @@ module _ {ls ns : List ℕ} {rs : List Float} {old : Told} {first : Bench}
         record { went = went_next t.went (told_long long) less (steps_next ls ns rs i long less s) (sym r ∙ ap (λ (g : Moved). g.bench) e) (rw e at p) (rw e at q) (rw e at u) }
 
     -- an event c, asked for as a and sensed as h
-    module _ {c : Event} (is : letter_of (get_or ls i 0) ≡ letter.Event c) {q : Question} (eq : q ≡ question_for c) {f : First} (ef : f ≡ first_for c b.head)
+    module _ {c : Event} (is : letter_of (get_or ls i 0) ≡ Some (letter.Event c)) {q : Question} (eq : q ≡ question_for c) {f : First} (ef : f ≡ first_for c b.head)
         (a : Asked) (ea : a ≡ asked_of b.table b.head.settings q f (get_or ns i 0)) (h : Sensed) (eh : h ≡ head_sensed b.head c (get_or ns i 0) a)
         {v w z : ℕ} (ev : v ≡ number_of h.answer) (ew : w ≡ answer_byte h.answer) (ez : z ≡ answer_train h.answer) where
       asked : a ≡ asked_for b c (get_or ns i 0)
@@ -79,7 +79,7 @@ module _ {ls ns : List ℕ} {rs : List Float} {old : Told} {first : Bench}
       pub turn_refused : (k : ℕ) → h.answer ≡ Refused k → BenchWent ls ns rs old first (told_at new i v w z) b (i + 1)
       turn_refused k e = event b (sensed_refused b c (get_or ns i 0) h seen k e)
 
-    pub turn_clock : letter_of (get_or ls i 0) ≡ letter.Clock → (m : Ticked) {v w z : ℕ} → m ≡ head_ticked b.head (reading_of (get_or rs i nan)) →
+    pub turn_clock : letter_of (get_or ls i 0) ≡ (Some letter.Clock) → (m : Ticked) {v w z : ℕ} → m ≡ head_ticked b.head (reading_of (get_or rs i nan)) →
         v ≡ number_of m.answer → w ≡ answer_byte m.answer → z ≡ answer_train m.answer →
         BenchWent ls ns rs old first (told_at new i v w z) (with_motion b m).bench (i + 1)
     unfolding clock_read

@@ -1,7 +1,7 @@
 -- What a line of the input of `gate bench` means: the word `settings` and seven or thirteen whole numbers, or a step, which is a letter of the record
 -- (A, B, E, F, O, L with a train number, T with the arm's reading in degrees). Empty lines and lines that begin with # mean nothing; every other
 -- line is wrong (document 01's refusal 15). Every line has one meaning. Assumes nothing.
-use Rattle.std.specs.Prelude.{ℕ, Bool, true, cond, ◌&&◌, List, [], ◌∷◌, map, eqb, ltb, length}
+use Rattle.std.specs.Prelude.{ℕ, Bool, true, cond, ◌&&◌, List, [], ◌∷◌, map, eqb, ltb, length, None, Some, Option}
 use Rattle.settings.specs.declared.Settings.{Settings}
 use Rattle.settings.specs.Values.{settings_of, kinds_alike}
 use Rattle.runs.specs.declared.Step.TheVariants as step
@@ -23,11 +23,11 @@ abbrev pub clock_of : List ℕ → Meaning
 clock_of field = clock_with (has_minus field) (whole_of (unsigned field)) (decimals_of (unsigned field))
 
 -- what a letter means with the field beside it
-abbrev pub step_with : Letter → List ℕ → Meaning
-step_with (letter.Event e) field = cond (is_number field) (Take (event_step e (number_of field))) Wrong
-step_with letter.Clock field = clock_of field
-step_with (letter.Command k) field = Wrong
-step_with letter.None field = Wrong
+abbrev pub step_with : Option Letter → List ℕ → Meaning
+step_with (Some (letter.Event e)) field = cond (is_number field) (Take (event_step e (number_of field))) Wrong
+step_with (Some letter.Clock) field = clock_of field
+step_with (Some (letter.Command k)) field = Wrong
+step_with None field = Wrong
 
 -- the first field and those after it: one byte, its letter, and one field more
 unfoldable pub step_of : List ℕ → List (List ℕ) → Meaning

@@ -132,13 +132,13 @@ is_sought Free e = is_free e
 -- ---- calls
 
 -- the kind of approach that a letter names: A, B, E, F
-abbrev pub kind_named : Letter → Named
-kind_named (letter.Event (events.Approach k)) = As k
-kind_named (letter.Event events.Occupy) = Nothing
-kind_named (letter.Event events.Leave) = Nothing
-kind_named letter.Clock = Nothing
-kind_named (letter.Command k) = Nothing
-kind_named letter.None = Nothing
+abbrev pub kind_named : Option Letter → Named
+kind_named (Some (letter.Event (events.Approach k))) = As k
+kind_named (Some (letter.Event events.Occupy)) = Nothing
+kind_named (Some (letter.Event events.Leave)) = Nothing
+kind_named (Some letter.Clock) = Nothing
+kind_named (Some (letter.Command k)) = Nothing
+kind_named None = Nothing
 
 -- an approach of the kind that is named, if one is
 abbrev pub of_kind : {X : Type 0} → Named → (Kind → X) → Option X
