@@ -1,132 +1,74 @@
 -- Laws of who is first: kept true by each change of the table, and what the full look says. Assumes nothing.
 use mathlib.Core.Path.{◌≡◌, refl, sym, ap, ap₂, ◌∙◌}
-use mathlib.Core.Bool.{Bool, true, false, cond, not, ◌&&◌, ◌||◌, true≢false}
+use mathlib.Core.Bool.{Bool, true, false, cond, ◌&&◌, ◌||◌, true≢false}
 use mathlib.Core.List.{List, [], ◌∷◌}
 use mathlib.Core.Logic.{◌⊎◌, inl, inr}
-use Prim.Native.Nat.{ℕ, zero, suc, ◌+◌, ◌<◌}
-use native.Mathlib.Numerals.{add-one}
+use Prim.Native.Nat.{ℕ, zero, suc, ◌<◌}
 use native.Mathlib.Omega.{arith}
 use native.Mathlib.Decide.{ℕ_discrete}
 use lib.Dec.{leb, eqb}
-use lib.ListN.{length, drop, get_or, set, length-set, drop_of_length-le}
-use lib.Seq.{drop-cons, set-get_or, get_or-set_same, get_or-set_other}
+use lib.ListN.{length, get_or, set, length-set}
+use lib.Seq.{set-get_or, get_or-set_same, get_or-set_other}
 use borrow.Author.Tests.{eq-eqb, eqb-true}
+use Rattle.std.specs.Prelude.{Option, Some, None}
+use Rattle.std.proofs.lemmas.Bool.Decides.{nat_tests}
 use Rattle.settings.specs.declared.Settings.{Settings}
-use Rattle.settings.proofs.Laws.{neither}
 use Rattle.trains.specs.declared.Standing.{Standing}
 use Rattle.trains.specs.declared.Standing.TheVariants.{Away, Coming, Inside}
 use Rattle.trains.specs.declared.Entry.{Entry}
 use Rattle.trains.specs.declared.Table.{Table}
-use Rattle.trains.specs.declared.First.{First}
-use Rattle.trains.specs.declared.First.TheVariants.{Nobody, Train}
+use Rattle.trains.specs.declared.Due.{Due}
 use Rattle.trains.specs.declared.Question.{Question}
-use Rattle.trains.specs.declared.Question.TheVariants.{Due, Latest}
+use Rattle.trains.specs.declared.Question.TheVariants as question
 use Rattle.trains.specs.Trains.{is_present, is_due, is_late}
 use Rattle.trains.specs.Table.{away_entry, is_of, fresh_table, entry_of, standing_of, place_for, put, some_of, some_entry, due_by, some_late, WellFormed}
-use Rattle.trains.specs.First.{before, own_of, own_but, has_own, instant_of, earlier_of, reached_by, is_named, IsFirst, first_of, first_in, first_but, rest_of}
+use Rattle.trains.specs.First.{due, own_of, own_but, has_own, instant_of, earlier_of, reached_by, is_named, IsFirst, first_of, first_in, first_but, rest_of}
 use Rattle.trains.proofs.Laws.{Fits, Room, own_says, says_own, entry_fits, Holds, place_holds, place_room, entry_here, place_only}
 use Rattle.trains.proofs.Order.{nobody_earlier, earlier_swap, earlier_least, earlier_none, earlier_either, reached_earlier}
 
 -- ---- an entry's own
 
 -- one without the instant asked for adds nothing
-pub own_none : (s : Settings) (q : Question) (e : Entry) → has_own q e.standing ≡ false → own_of s q e ≡ Nobody
+pub own_none : (s : Settings) (q : Question) (e : Entry) → has_own q e.standing ≡ false → own_of s q e ≡ None
 unfolding own_of
 own_none s q e none = rw none
 
 -- and one with it adds the train with its instant
-pub own_some : (s : Settings) (q : Question) (e : Entry) → has_own q e.standing ≡ true → own_of s q e ≡ Train e.number (instant_of s q e)
+pub own_some : (s : Settings) (q : Question) (e : Entry) → has_own q e.standing ≡ true → own_of s q e ≡ Some (due e.number (instant_of s q e))
 unfolding own_of
 own_some s q e has = rw has
 
 -- one that no train has is without it
 free_none : (q : Question) (standing : Standing) → is_present standing ≡ false → has_own q standing ≡ false
 unfolding has_own
-free_none Due standing p = p
-free_none Latest Away p = refl
-free_none Latest (Coming a) p = absurd (true≢false p)
-free_none Latest (Inside a) p = refl
+free_none question.Due standing p = p
+free_none question.Latest Away p = refl
+free_none question.Latest (Coming a) p = absurd (true≢false p)
+free_none question.Latest (Inside a) p = refl
 
-pub own_free : (s : Settings) (q : Question) (e : Entry) → is_present e.standing ≡ false → own_of s q e ≡ Nobody
+pub own_free : (s : Settings) (q : Question) (e : Entry) → is_present e.standing ≡ false → own_of s q e ≡ None
 own_free s q e p = own_none s q e (free_none q e.standing p)
 
-pub own_away : (s : Settings) (q : Question) → own_of s q away_entry ≡ Nobody
+pub own_away : (s : Settings) (q : Question) → own_of s q away_entry ≡ None
 own_away s q = own_free s q away_entry refl
 
 -- who it is: the entry's train, which is present
-own_train : (s : Settings) (q : Question) (e : Entry) (m u : ℕ) → own_of s q e ≡ Train m u → is_of m e ≡ true
+own_train : (s : Settings) (q : Question) (e : Entry) (a : Due) → own_of s q e ≡ Some a → is_of a.train e ≡ true
 unfolding own_of
-own_train s q e m u o = go (is_present e.standing) refl
+own_train s q e a o = go (is_present e.standing) refl
   where
-    numbered : (has : Bool) → cond has (Train e.number (instant_of s q e)) Nobody ≡ Train m u → e.number ≡ m
+    numbered : (has : Bool) → cond has (Some (due e.number (instant_of s q e))) None ≡ Some a → e.number ≡ a.train
     numbered true p = cc
-    numbered false p = let z : ◌≡◌ {A = ℕ} 0 1 = cc in absurd (omega arith)
+    numbered false p = absurd (cc)
 
-    go : (b : Bool) → is_present e.standing ≡ b → is_of m e ≡ true
-    go true p = says_own m e p (numbered (has_own q e.standing) o)
-    go false p = let x = sym (own_free s q e p) ∙ o in let z : ◌≡◌ {A = ℕ} 0 1 = cc in absurd (omega arith)
-
--- ---- the scan of all trains but n, from the last entry to the first
-pub other_some : (s : Settings) (q : Question) (n : ℕ) (e : Entry) → (has_own q e.standing && not (eqb e.number n)) ≡ true →
-    own_but s q n e ≡ Train e.number (instant_of s q e)
-unfolding own_but own_of
-other_some s q n e p = go (has_own q e.standing) (eqb e.number n) p
-  where
-    go : (has same : Bool) → (has && not same) ≡ true → cond same Nobody (cond has (Train e.number (instant_of s q e)) Nobody) ≡ Train e.number (instant_of s q e)
-    go true false p = refl
-    go true true p = absurd (true≢false (sym p))
-    go false same p = absurd (true≢false (sym p))
-
-pub other_none : (s : Settings) (q : Question) (n : ℕ) (e : Entry) → (has_own q e.standing && not (eqb e.number n)) ≡ false → own_but s q n e ≡ Nobody
-unfolding own_but own_of
-other_none s q n e p = go (has_own q e.standing) (eqb e.number n) p
-  where
-    go : (has same : Bool) → (has && not same) ≡ false → cond same Nobody (cond has (Train e.number (instant_of s q e)) Nobody) ≡ Nobody
-    go true true p = refl
-    go true false p = absurd (true≢false p)
-    go false true p = refl
-    go false false p = refl
-
--- an entry that no train has does not count
-other_free : (s : Settings) (q : Question) (n : ℕ) (e : Entry) (best : First) → is_present e.standing ≡ false → earlier_of (own_but s q n e) best ≡ best
-unfolding own_but
-other_free s q n e best p = rw (own_free s q e p) (go (eqb e.number n))
-  where
-    go : (same : Bool) → earlier_of (cond same Nobody Nobody) best ≡ best
-    go true = nobody_earlier best
-    go false = nobody_earlier best
-
-module _ (own : Entry → First) (l : List Entry) where
-  pub first_end : (i : ℕ) → length l ≡ i → first_of own (drop i l) ≡ Nobody
-  first_end i h = rw (drop_of_length-le l {i = i} (omega arith))
-
-  first_next : (i j : ℕ) → i + 1 ≡ j → i < length l → (best : First) → best ≡ first_of own (drop j l) → earlier_of (own (get_or l i away_entry)) best ≡ first_of own (drop i l)
-  first_next i j z h best p = rw (p, ← z, add-one, drop-cons l i away_entry)
-
-  -- four entries more
-  pub first_four : (i : ℕ) → i + 3 < length l → (best : First) → best ≡ first_of own (drop (i + 4) l) →
-      earlier_of (own (get_or l i away_entry)) (earlier_of (own (get_or l (i + 1) away_entry)) (earlier_of (own (get_or l (i + 2) away_entry)) (earlier_of (own (get_or l (i + 3) away_entry)) best)))
-      ≡ first_of own (drop i l)
-  first_four i h best p =
-      first_next i (i + 1) refl (omega arith) _
-      (first_next (i + 1) (i + 2) (omega arith) (omega arith) _
-      (first_next (i + 2) (i + 3) (omega arith) (omega arith) _
-      (first_next (i + 3) (i + 4) (omega arith) (omega arith) best p)))
-
--- which no train has
-pub four_free : (s : Settings) (q : Question) (n : ℕ) (a b c d : Entry) (best : First) →
-    ((is_present a.standing || is_present b.standing) || (is_present c.standing || is_present d.standing)) ≡ false →
-    best ≡ earlier_of (own_but s q n a) (earlier_of (own_but s q n b) (earlier_of (own_but s q n c) (earlier_of (own_but s q n d) best)))
-four_free s q n a b c d best none =
-    let n₁ = neither (is_present a.standing || is_present b.standing) _ none in
-    let n₂ = neither (is_present a.standing) (is_present b.standing) n₁.0 in
-    let n₃ = neither (is_present c.standing) (is_present d.standing) n₁.1 in
-    sym (other_free s q n a _ n₂.0 ∙ other_free s q n b _ n₂.1 ∙ other_free s q n c _ n₃.0 ∙ other_free s q n d best n₃.1)
+    go : (b : Bool) → is_present e.standing ≡ b → is_of a.train e ≡ true
+    go true p = says_own a.train e p (numbered (has_own q e.standing) o)
+    go false p = let x = sym (own_free s q e p) ∙ o in absurd (cc)
 
 -- ---- lists of entries
 
 -- an entry at an index, taken out
-first_set : (own : Entry → First) → own away_entry ≡ Nobody → (l : List Entry) (i : ℕ) (entry : Entry) → i < length l →
+first_set : (own : Entry → Option Due) → own away_entry ≡ None → (l : List Entry) (i : ℕ) (entry : Entry) → i < length l →
     first_of own (set l i entry) ≡ earlier_of (own entry) (first_of own (set l i away_entry))
 first_set own none [] i entry h = absurd (omega arith)
 first_set own none (e ∷ l) zero entry h = rw (none, nobody_earlier (first_of own l))
@@ -134,7 +76,7 @@ first_set own none (e ∷ l) (suc i) entry h =
     rw (earlier_swap (own entry) (own e) (first_of own (set l i away_entry))) (ap (earlier_of (own e)) (first_set own none l i entry (omega arith)))
 
 -- lists whose entries add the same
-first_alike : (own other : Entry → First) (l k : List Entry) → length l ≡ length k →
+first_alike : (own other : Entry → Option Due) (l k : List Entry) → length l ≡ length k →
     ((i : ℕ) → i < length l → own (get_or l i away_entry) ≡ other (get_or k i away_entry)) → first_of own l ≡ first_of other k
 first_alike own other [] [] e same = refl
 first_alike own other [] (y ∷ k) e same = absurd (omega arith)
@@ -143,27 +85,23 @@ first_alike own other (x ∷ l) (y ∷ k) e same =
     ap₂ earlier_of (same 0 (omega arith)) (first_alike own other l k (omega arith) (λ i h. same (suc i) (omega arith)))
 
 -- what is first is an entry's own
-own_from : (own : Entry → First) (es : List Entry) (n t : ℕ) → first_of own es ≡ Train n t → (i : ℕ) × (i < length es) × (own (get_or es i away_entry) ≡ Train n t)
-own_from own [] n t e = absurd (let z : ◌≡◌ {A = ℕ} 0 1 = cc in omega arith)
-own_from own (x ∷ es) n t e = go (λ z. own_from own es n t z) (earlier_either (own x) (first_of own es))
+own_from : (own : Entry → Option Due) (es : List Entry) (a : Due) → first_of own es ≡ Some a → (i : ℕ) × (i < length es) × (own (get_or es i away_entry) ≡ Some a)
+own_from own [] a e = absurd (cc)
+own_from own (x ∷ es) a e = go (λ z. own_from own es a z) (earlier_either (own x) (first_of own es))
   where
     Found : List Entry → Type 0
-    Found es = (i : ℕ) × (i < length es) × (own (get_or es i away_entry) ≡ Train n t)
+    Found es = (i : ℕ) × (i < length es) × (own (get_or es i away_entry) ≡ Some a)
 
-    go : (first_of own es ≡ Train n t → Found es) → (earlier_of (own x) (first_of own es) ≡ own x) ⊎ (earlier_of (own x) (first_of own es) ≡ first_of own es) → Found (x ∷ es)
+    go : (first_of own es ≡ Some a → Found es) → (earlier_of (own x) (first_of own es) ≡ own x) ⊎ (earlier_of (own x) (first_of own es) ≡ first_of own es) → Found (x ∷ es)
     go later (inl z) = (0, omega arith, sym z ∙ e)
     go later (inr z) = let r = later (sym z ∙ e) in (suc r.0, omega (arith, r.1), r.2)
 
 -- the choice: the first, which is then named, or the second
-chosen : (n : ℕ) (f g : First) → ((m u : ℕ) → f ≡ Train m u → m ≡ n) → is_named n (earlier_of f g) ≡ false → earlier_of f g ≡ g
+chosen : (n : ℕ) (f g : Option Due) → ((a : Due) → f ≡ Some a → a.train ≡ n) → is_named n (earlier_of f g) ≡ false → earlier_of f g ≡ g
 unfolding earlier_of is_named
-chosen n Nobody g own h = refl
-chosen n (Train m t) Nobody own h = absurd (true≢false (sym (eq-eqb m n (own m t refl)) ∙ h))
-chosen n (Train m t) (Train k u) own h = go (before m t k u) h
-  where
-    go : (b : Bool) → is_named n (cond b (Train m t) (Train k u)) ≡ false → cond b (Train m t) (Train k u) ≡ Train k u
-    go true r = absurd (true≢false (sym (eq-eqb m n (own m t refl)) ∙ r))
-    go false r = refl
+chosen n None g own h = refl
+chosen n (Some a) None own h = absurd (true≢false (sym (eq-eqb a.train n (own a refl)) ∙ h))
+chosen n (Some a) (Some b) own h = let e = own a refl in grind (arith, nat_tests)
 
 -- ---- by train number, where there is room
 module _ (s : Settings) (q : Question) (t : Table) (n : ℕ) (f : WellFormed t) (r : Room t n) where
@@ -181,7 +119,7 @@ module _ (s : Settings) (q : Question) (t : Table) (n : ℕ) (f : WellFormed t) 
   first_here =
       ap (first_of (own_of s q)) (sym (set-get_or t.places (place_for t n) away_entry))
       ∙ first_set (own_of s q) (own_away s q) t.places (place_for t n) (get_or t.places (place_for t n) away_entry) there
-      ∙ ap (λ (g : First). earlier_of g (first_in s q (put t n away_entry))) (same (get_or t.places (place_for t n) away_entry) (place_holds t n))
+      ∙ ap (λ (g : Option Due). earlier_of g (first_in s q (put t n away_entry))) (same (get_or t.places (place_for t n) away_entry) (place_holds t n))
     where
       same : (e : Entry) → Holds t n e → own_of s q e ≡ own_of s q (entry_of t n)
       same e (inl h) = own_free s q e h.0 ∙ sym (ap (own_of s q) h.1 ∙ own_away s q)
@@ -193,10 +131,10 @@ module _ (s : Settings) (q : Question) (t : Table) (n : ℕ) (f : WellFormed t) 
   first_but_law = first_alike (own_but s q n) (own_of s q) t.places (set t.places (place_for t n) away_entry) (sym (length-set t.places (place_for t n) away_entry)) (λ i h. go i h (ℕ_discrete i (place_for t n)))
     where
       -- its own entry does not count, and no other is its own
-      mine : (e : Entry) → Holds t n e → own_but s q n e ≡ Nobody
+      mine : (e : Entry) → Holds t n e → own_but s q n e ≡ None
       mine e (inl h) = rw (own_free s q e h.0) (both_none (eqb e.number n))
         where
-          both_none : (b : Bool) → cond b Nobody Nobody ≡ Nobody
+          both_none : (b : Bool) → ◌≡◌ {A = Option Due} (cond b None None) None
           both_none true = refl
           both_none false = refl
       mine e (inr h) = rw (eq-eqb e.number n (own_says n e h.0).1)
@@ -204,7 +142,7 @@ module _ (s : Settings) (q : Question) (t : Table) (n : ℕ) (f : WellFormed t) 
       others : (e : Entry) → is_of n e ≡ false → own_but s q n e ≡ own_of s q e
       others e d = by (eqb e.number n) refl (is_present e.standing) refl
         where
-          by : (b : Bool) → eqb e.number n ≡ b → (p : Bool) → is_present e.standing ≡ p → cond b Nobody (own_of s q e) ≡ own_of s q e
+          by : (b : Bool) → eqb e.number n ≡ b → (p : Bool) → is_present e.standing ≡ p → cond b None (own_of s q e) ≡ own_of s q e
           by true z true p = absurd (true≢false (sym (says_own n e p (eqb-true e.number n z)) ∙ d))
           by true z false p = sym (own_free s q e p)
           by false z p y = refl
@@ -220,64 +158,64 @@ module _ (s : Settings) (q : Question) (t : Table) (n : ℕ) (f : WellFormed t) 
 
   -- an entry that has the same instants as the old one leaves it as it was
   pub first_same : (entry : Entry) → own_of s q entry ≡ own_of s q (entry_of t n) → first_in s q (put t n entry) ≡ first_in s q t
-  first_same entry o = first_put entry ∙ ap (λ (g : First). earlier_of g (first_in s q (put t n away_entry))) o ∙ sym first_here
+  first_same entry o = first_put entry ∙ ap (λ (g : Option Due). earlier_of g (first_in s q (put t n away_entry))) o ∙ sym first_here
 
   -- a train that had none is put to it
-  pub first_joined : (entry : Entry) → own_of s q (entry_of t n) ≡ Nobody → first_in s q (put t n entry) ≡ earlier_of (own_of s q entry) (first_in s q t)
+  pub first_joined : (entry : Entry) → own_of s q (entry_of t n) ≡ None → first_in s q (put t n entry) ≡ earlier_of (own_of s q entry) (first_in s q t)
   first_joined entry o =
       first_put entry
-      ∙ ap (earlier_of (own_of s q entry)) (sym (first_here ∙ ap (λ (g : First). earlier_of g (first_in s q (put t n away_entry))) o ∙ nobody_earlier (first_in s q (put t n away_entry))))
+      ∙ ap (earlier_of (own_of s q entry)) (sym (first_here ∙ ap (λ (g : Option Due). earlier_of g (first_in s q (put t n away_entry))) o ∙ nobody_earlier (first_in s q (put t n away_entry))))
 
   -- the rest: read through only where the train is first
   pub first_rest : rest_of s q (first_in s q t) n t ≡ first_in s q (put t n away_entry)
   unfolding rest_of
   first_rest = go (is_named n (first_in s q t)) refl
     where
-      own : (e : Entry) → Fits n e → (m u : ℕ) → own_of s q e ≡ Train m u → m ≡ n
-      own e (inl p) m u o = sym (own_says m e (own_train s q e m u o)).1 ∙ (own_says n e p).1
-      own e (inr p) m u o = let x = sym (ap (own_of s q) p ∙ own_away s q) ∙ o in let z : ◌≡◌ {A = ℕ} 0 1 = cc in absurd (omega arith)
+      own : (e : Entry) → Fits n e → (a : Due) → own_of s q e ≡ Some a → a.train ≡ n
+      own e (inl p) a o = sym (own_says a.train e (own_train s q e a o)).1 ∙ (own_says n e p).1
+      own e (inr p) a o = let x = sym (ap (own_of s q) p ∙ own_away s q) ∙ o in absurd (cc)
 
       go : (b : Bool) → is_named n (first_in s q t) ≡ b → cond b (first_but s q n t) (first_in s q t) ≡ first_in s q (put t n away_entry)
       go true h = first_but_law
       go false h = first_here ∙ chosen n (own_of s q (entry_of t n)) (first_in s q (put t n away_entry)) (own (entry_of t n) (entry_fits t n)) (ap (is_named n) (sym first_here) ∙ h)
 
   -- an entry put that has no instant of its own: the rest
-  pub first_gone : (entry : Entry) → own_of s q entry ≡ Nobody → first_in s q (put t n entry) ≡ rest_of s q (first_in s q t) n t
+  pub first_gone : (entry : Entry) → own_of s q entry ≡ None → first_in s q (put t n entry) ≡ rest_of s q (first_in s q t) n t
   first_gone entry o =
-      first_put entry ∙ ap (λ (g : First). earlier_of g (first_in s q (put t n away_entry))) o ∙ nobody_earlier (first_in s q (put t n away_entry)) ∙ sym first_rest
+      first_put entry ∙ ap (λ (g : Option Due). earlier_of g (first_in s q (put t n away_entry))) o ∙ nobody_earlier (first_in s q (put t n away_entry)) ∙ sym first_rest
 
 -- ---- what it says: the first to reach its instant of all trains that have one, of equals the lowest number
 module _ (s : Settings) (q : Question) (t : Table) (f : WellFormed t) where
-  first_own : (n u : ℕ) → first_in s q t ≡ Train n u → own_of s q (entry_of t n) ≡ Train n u
+  first_own : (a : Due) → first_in s q t ≡ Some a → own_of s q (entry_of t a.train) ≡ Some a
   unfolding first_in
-  first_own n u e =
+  first_own a e =
       let l = f.entries in
-      let r = own_from (own_of s q) t.places n u e in
-      ap (own_of s q) (entry_here t f n r.0 (omega (arith, r.1, l)) (own_train s q (get_or t.places r.0 away_entry) n u r.2)) ∙ r.2
+      let r = own_from (own_of s q) t.places a e in
+      ap (own_of s q) (entry_here t f a.train r.0 (omega (arith, r.1, l)) (own_train s q (get_or t.places r.0 away_entry) a r.2)) ∙ r.2
 
   -- so for each number the table's first is the one that is first of its own and the rest
-  first_each : (m : ℕ) → (r : First) × (first_in s q t ≡ earlier_of (own_of s q (entry_of t m)) r)
+  first_each : (m : ℕ) → (r : Option Due) × (first_in s q t ≡ earlier_of (own_of s q (entry_of t m)) r)
   first_each m = go (is_present (standing_of t m)) refl
     where
-      go : (b : Bool) → is_present (standing_of t m) ≡ b → (r : First) × (first_in s q t ≡ earlier_of (own_of s q (entry_of t m)) r)
+      go : (b : Bool) → is_present (standing_of t m) ≡ b → (r : Option Due) × (first_in s q t ≡ earlier_of (own_of s q (entry_of t m)) r)
       go true p = (first_in s q (put t m away_entry), first_here s q t m f (inl p))
       go false p = (first_in s q t, rw (own_free s q (entry_of t m) p) (sym (nobody_earlier (first_in s q t))))
 
   pub first_is : IsFirst (λ n. own_of s q (entry_of t n)) (first_in s q t)
   first_is = record {
     one = first_own;
-    least = λ n u m v e o. let r = first_each m in earlier_least (own_of s q (entry_of t m)) r.0 n u m v (sym r.1 ∙ e) o;
+    least = λ a b e o. let r = first_each b.train in earlier_least (own_of s q (entry_of t b.train)) r.0 a b (sym r.1 ∙ e) o;
     none = λ e m. let r = first_each m in earlier_none (own_of s q (entry_of t m)) r.0 (sym r.1 ∙ e);
   }
 
 -- ---- the beginning
-pub first_fresh : (s : Settings) (q : Question) → first_in s q fresh_table ≡ Nobody
+pub first_fresh : (s : Settings) (q : Question) → first_in s q fresh_table ≡ None
 unfolding first_in fresh_table own_of has_own earlier_of
-first_fresh s Due = refl
-first_fresh s Latest = refl
+first_fresh s question.Due = refl
+first_fresh s question.Latest = refl
 
 -- ---- the full look: it answers yes exactly if who is first has reached the instant
-look_from : (own : Entry → First) (test : Entry → Bool) (l : ℕ) → ((entry : Entry) → reached_by l (own entry) ≡ test entry) →
+look_from : (own : Entry → Option Due) (test : Entry → Bool) (l : ℕ) → ((entry : Entry) → reached_by l (own entry) ≡ test entry) →
     (es : List Entry) → reached_by l (first_of own es) ≡ some_of test es
 unfolding reached_by
 look_from own test l same [] = refl
@@ -291,15 +229,15 @@ own_reached : (s : Settings) (q : Question) (t : ℕ) (e : Entry) → reached_by
 unfolding own_of reached_by
 own_reached s q t e = go (has_own q e.standing)
   where
-    go : (has : Bool) → reached_by t (cond has (Train e.number (instant_of s q e)) Nobody) ≡ (has && leb (instant_of s q e) t)
+    go : (has : Bool) → reached_by t (cond has (Some (due e.number (instant_of s q e))) None) ≡ (has && leb (instant_of s q e) t)
     go true = refl
     go false = refl
 
 module _ (s : Settings) (table : Table) where
-  pub due_first : (t : ℕ) → reached_by t (first_in s Due table) ≡ due_by table s t
+  pub due_first : (t : ℕ) → reached_by t (first_in s question.Due table) ≡ due_by table s t
   unfolding first_in some_entry has_own instant_of is_due
-  due_first t = look_from (own_of s Due) (is_due s t) t (own_reached s Due t) table.places
+  due_first t = look_from (own_of s question.Due) (is_due s t) t (own_reached s question.Due t) table.places
 
-  pub late_first : (now : ℕ) → reached_by now (first_in s Latest table) ≡ some_late table s now
+  pub late_first : (now : ℕ) → reached_by now (first_in s question.Latest table) ≡ some_late table s now
   unfolding first_in some_entry has_own instant_of is_late
-  late_first now = look_from (own_of s Latest) (is_late s now) now (own_reached s Latest now) table.places
+  late_first now = look_from (own_of s question.Latest) (is_late s now) now (own_reached s question.Latest now) table.places
