@@ -3,7 +3,7 @@ use mathlib.Core.Path.{◌≡◌, refl, sym, ap, ◌∙◌}
 use mathlib.Core.Bool.{true, false, cond, ◌||◌}
 use mathlib.Core.List.{List, [], ◌∷◌}
 use mathlib.Core.Logic.{◌⊎◌, inl, inr}
-use Prim.Native.Nat.{ℕ, ◌≤◌, ◌<◌}
+use Prim.Native.Nat.{ℕ, ◌≤◌}
 use native.Mathlib.Omega.{arith}
 use Rattle.std.specs.Prelude.{Option, Some, None}
 use Rattle.std.specs.List.{filter_map, cons_option, reduce, fold}
@@ -13,13 +13,10 @@ use Rattle.trains.specs.declared.Entry.{Entry}
 use Rattle.trains.specs.declared.Due.{Due}
 use Rattle.trains.specs.First.{before, earlier_of, reached_by, IsFirst, first_of}
 
--- ---- what `before` says, both ways
+-- ---- what `before` says
 module _ (a b : Due) where
   pub before_says : before a b ≡ true → (a.instant ≤ b.instant) × (a.instant ≡ b.instant → a.train ≤ b.train)
   before_says h = (grind (arith, nat_tests), λ e. grind (arith, nat_tests))
-
-  pub before_denies : before a b ≡ false → (b.instant ≤ a.instant) × (a.instant ≡ b.instant → b.train < a.train)
-  before_denies h = (grind (arith, nat_tests), λ e. grind (arith, nat_tests))
 
   same_due : a.instant ≡ b.instant → a.train ≡ b.train → a ≡ b
   same_due p q = λ i. record { instant = p i; train = q i }
@@ -37,13 +34,7 @@ pub sooner_earlier : (a b : Due) → Some (sooner a b) ≡ earlier_of (Some a) (
 unfolding earlier_of
 sooner_earlier a b = grind (arith, nat_tests)
 
--- ---- three in another order
-trans : (a b c : Due) → before a b ≡ true → before b c ≡ true → before a c ≡ true
-trans a b c p q = grind (arith, nat_tests)
-
-total : (a b : Due) → before a b ≡ false → before b a ≡ false → ⊥
-total a b p q = grind (arith, nat_tests)
-
+-- ---- two and three in another order
 antisym : (a b : Due) → before a b ≡ true → before b a ≡ true → a ≡ b
 antisym a b p q = let x = before_says a b p in let y = before_says b a q in same_due a b (omega arith) (grind (arith, nat_tests))
 
