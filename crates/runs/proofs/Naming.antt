@@ -1,5 +1,5 @@
 -- A lower names the train that is due soonest, on every list of steps. Assumes nothing.
-use Rattle.std.specs.Prelude.{Some}
+use Rattle.std.specs.Prelude.{Some, None}
 use Prim.Native.Nat.{ℕ, suc, ◌≤◌}
 use native.Mathlib.Omega.{arith}
 use mathlib.Core.Path.{◌≡◌, refl, sym, ◌∙◌, ap}
@@ -11,7 +11,6 @@ use borrow.Author.Tests.{le-leb, leb-true}
 use Rattle.settings.specs.declared.Settings.{Settings}
 use Rattle.arm.specs.declared.Command.{Command}
 use Rattle.arm.specs.declared.Command.TheVariants.{Up, Down}
-use Rattle.trains.specs.declared.First.TheVariants.{Nobody, Train}
 use Rattle.trains.specs.declared.Question.TheVariants.{Due}
 use Rattle.trains.specs.First.{First, reached_by, train_of, first_in}
 use Rattle.trains.proofs.Laws.{train_says}
@@ -39,8 +38,8 @@ pub order_named : (test : ℕ → Bool) → test 0 ≡ true → (s : Settings) (
 order_named test none s h g v = either (command s h) (command s g)
   where
     own : (f : First) → soonest s g ≡ f → test (train_of f) ≡ true
-    own Nobody e = none
-    own (Train n t) e = present_named test g v n ((soonest_says s g).present n t e).0
+    own None e = none
+    own (Some a) e = present_named test g v a.train ((soonest_says s g).present a.train a.instant e).0
 
     either : (k l : Command) → test (order_train (given (train_of (soonest s g)) k l)) ≡ true
     either Up Up = none
@@ -54,10 +53,10 @@ order_small s h g v =
     leb-true _ 65535 (order_named (λ (n : ℕ). leb n 65535) refl s h g (valid_named s (λ (n : ℕ). leb n 65535) (λ n e. le-leb n 65535 (train_says n e).1) g v))
 
 -- one whose instant is reached is a train
-reached_train : (t : ℕ) (f : First) → reached_by t f ≡ true → (u : ℕ) × (f ≡ Train (train_of f) u) × (u ≤ t)
+reached_train : (t : ℕ) (f : First) → reached_by t f ≡ true → (u : ℕ) × (f ≡ Some (record { instant = u; train = train_of f })) × (u ≤ t)
 unfolding reached_by
-reached_train t Nobody e = absurd (false≢true e)
-reached_train t (Train n u) e = (u, refl, leb-true u t e)
+reached_train t None e = absurd (false≢true e)
+reached_train t (Some a) e = (a.instant, refl, leb-true a.instant t e)
 
 module _ (s : Settings) (xs : List Step) where
   matched : (i : ℕ) → Match s (moment s xs i) (built_at s xs i)
@@ -78,7 +77,7 @@ module _ (s : Settings) (xs : List Step) where
         let l = lower_says _ n (command s (moment s xs i)) (command s (moment s xs (suc i))) e in
         let d = lowered_due s xs i l.0 l.1 in
         let r = reached_train (lowering s (moment s xs (suc i))) (soonest s (moment s xs (suc i))) (sym ((soonest_says s (moment s xs (suc i))).due (lowering s (moment s xs (suc i)))) ∙ d) in
-        (l.0, l.1, (r.0, r.1 ∙ ap (λ (k : ℕ). Train k r.0) l.2, r.2));
+        (l.0, l.1, (r.0, r.1 ∙ ap (λ (k : ℕ). Some (record { instant = r.0; train = k })) l.2, r.2));
   }
 
 pub soonest_always : SoonestAlways

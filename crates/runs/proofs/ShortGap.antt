@@ -12,7 +12,7 @@ use lib.Ieee.{round}
 use lib.ListN.{length}
 use borrow.Author.Tests.{le-leb, not-true}
 use Rattle.settings.specs.declared.Settings.{Settings}
-use Rattle.settings.specs.Settings.{ticks_for, in_range, settings_refusal, Accepted, too_soon, spread}
+use Rattle.settings.specs.Settings.{ticks_for, in_range, rates_in_range, waits_in_range, settings_refusal, Accepted, too_soon, spread}
 use Rattle.settings.proofs.Laws.{both}
 use Rattle.settings.specs.declared.Kind.TheVariants.{Loaded}
 use Rattle.arm.specs.Angle.{degrees}
@@ -105,5 +105,5 @@ steps =
 
 -- moment 10 is at 6, more than a tick from both
 pub gap_needed : GapNeeded
-unfolding none ticks_for in_range too_soon spread settings_refusal is_train round degrees reading_of may_move step_refusal history command due_at latest_at some_train
+unfolding none ticks_for in_range rates_in_range waits_in_range too_soon spread settings_refusal is_train round degrees reading_of may_move step_refusal history command due_at latest_at some_train
 gap_needed = (settings, steps, 10, only_between settings steps 10 refl (omega arith) (omega arith) (omega arith) refl refl)

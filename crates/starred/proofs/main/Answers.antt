@@ -1,7 +1,7 @@
 use Rattle.std.proofs.Common.{refl}
 use lib.Ieee.{of_bits}
 use Rattle.settings.specs.Settings as settings
-use Rattle.settings.specs.Settings.{ticks_for, in_range, too_soon, spread, settings_refusal}
+use Rattle.settings.specs.Settings.{ticks_for, in_range, rates_in_range, waits_in_range, too_soon, spread, settings_refusal}
 use Rattle.arm.specs.Shown.{reading_of}
 use Rattle.arm.specs.Movement.{may_move}
 use Rattle.trains.specs.Trains.{is_train}
@@ -12,9 +12,9 @@ use Rattle.runs.specs.Run.{all_of, steps_of, run_refusal}
 use Rattle.starred.proofs.main.Goals as goal
 
 pub check_settings-requires : goal.check_settings-requires
-unfolding ticks_for in_range too_soon spread settings_refusal settings.verdict
+unfolding ticks_for in_range rates_in_range waits_in_range too_soon spread settings_refusal settings.verdict
 check_settings-requires c = (record { whole = refl }, record { whole = refl })
 
 pub check_lists-requires : goal.check_lists-requires
-unfolding run_refusal settings_refusal in_range too_soon spread ticks_for all_of letter_of steps_of step_refusals orders step_refusal command some_train due_of soonest earlier_of due_at latest_at is_train reading_of may_move of_bits
+unfolding run_refusal settings_refusal in_range rates_in_range waits_in_range too_soon spread ticks_for all_of letter_of steps_of step_refusals orders step_refusal command some_train due_of soonest earlier_of due_at latest_at is_train reading_of may_move of_bits
 check_lists-requires c = record { whole = refl }
