@@ -2,19 +2,18 @@
 use mathlib.Core.Path.{◌≡◌, refl, sym, ap, ap₂, ◌∙◌}
 use mathlib.Core.Bool.{Bool, true, false, cond, ◌&&◌, ◌||◌, true≢false}
 use mathlib.Core.List.{List, [], ◌∷◌}
-use mathlib.Core.Logic.{◌⊎◌, inl, inr}
+use mathlib.Core.Logic.{inl, inr}
 use Prim.Native.Nat.{ℕ, zero, suc, ◌<◌}
 use native.Mathlib.Omega.{arith}
 use native.Mathlib.Decide.{ℕ_discrete}
-use lib.Dec.{leb, eqb}
+use lib.Dec.{leb}
 use lib.ListN.{length, get_or, set, length-set}
 use lib.Seq.{set-get_or, get_or-set_same, get_or-set_other}
-use borrow.Author.Tests.{eq-eqb, eqb-true}
+use borrow.Author.Tests.{eq-eqb}
 use Rattle.std.specs.Prelude.{Option, Some, None}
 use Rattle.std.proofs.lemmas.Bool.Decides.{nat_tests}
 use Rattle.settings.specs.declared.Settings.{Settings}
 use Rattle.trains.specs.declared.Standing.{Standing}
-use Rattle.trains.specs.declared.Standing.TheVariants.{Away, Coming, Inside}
 use Rattle.trains.specs.declared.Entry.{Entry}
 use Rattle.trains.specs.declared.Table.{Table}
 use Rattle.trains.specs.declared.Due.{Due}
@@ -23,6 +22,7 @@ use Rattle.trains.specs.declared.Question.TheVariants as question
 use Rattle.trains.specs.Trains.{is_present, is_due, is_late}
 use Rattle.trains.specs.Table.{away_entry, is_of, fresh_table, entry_of, standing_of, place_for, put, some_of, some_entry, due_by, some_late, WellFormed}
 use Rattle.trains.specs.First.{due, own_of, own_but, has_own, instant_of, earlier_of, reached_by, is_named, IsFirst, first_of, first_in, first_but, rest_of}
+use Rattle.trains.proofs.Lists.{cases_of}
 use Rattle.trains.proofs.Laws.{Fits, Room, own_says, says_own, entry_fits, Holds, place_holds, place_room, entry_here, place_only}
 use Rattle.trains.proofs.Order.{nobody_earlier, earlier_swap, earlier_least, earlier_none, earlier_either, reached_earlier}
 
@@ -42,9 +42,7 @@ own_some s q e has = rw has
 free_none : (q : Question) (standing : Standing) → is_present standing ≡ false → has_own q standing ≡ false
 unfolding has_own
 free_none question.Due standing p = p
-free_none question.Latest Away p = refl
-free_none question.Latest (Coming a) p = absurd (true≢false p)
-free_none question.Latest (Inside a) p = refl
+free_none question.Latest standing p = grind arith
 
 pub own_free : (s : Settings) (q : Question) (e : Entry) → is_present e.standing ≡ false → own_of s q e ≡ None
 own_free s q e p = own_none s q e (free_none q e.standing p)
@@ -55,15 +53,10 @@ own_away s q = own_free s q away_entry refl
 -- who it is: the entry's train, which is present
 own_train : (s : Settings) (q : Question) (e : Entry) (a : Due) → own_of s q e ≡ Some a → is_of a.train e ≡ true
 unfolding own_of
-own_train s q e a o = go (is_present e.standing) refl
-  where
-    numbered : (has : Bool) → cond has (Some (due e.number (instant_of s q e))) None ≡ Some a → e.number ≡ a.train
-    numbered true p = cc
-    numbered false p = absurd (cc)
-
-    go : (b : Bool) → is_present e.standing ≡ b → is_of a.train e ≡ true
-    go true p = says_own a.train e p (numbered (has_own q e.standing) o)
-    go false p = let x = sym (own_free s q e p) ∙ o in absurd (cc)
+own_train s q e a o = elim (cases_of (is_present e.standing)) [
+  | inl p ↦ says_own a.train e p (grind arith)
+  | inr p ↦ absurd (let x = own_free s q e p in cc)
+]
 
 -- ---- lists of entries
 
@@ -87,14 +80,10 @@ first_alike own other (x ∷ l) (y ∷ k) e same =
 -- what is first is an entry's own
 own_from : (own : Entry → Option Due) (es : List Entry) (a : Due) → first_of own es ≡ Some a → (i : ℕ) × (i < length es) × (own (get_or es i away_entry) ≡ Some a)
 own_from own [] a e = absurd (cc)
-own_from own (x ∷ es) a e = go (λ z. own_from own es a z) (earlier_either (own x) (first_of own es))
-  where
-    Found : List Entry → Type 0
-    Found es = (i : ℕ) × (i < length es) × (own (get_or es i away_entry) ≡ Some a)
-
-    go : (first_of own es ≡ Some a → Found es) → (earlier_of (own x) (first_of own es) ≡ own x) ⊎ (earlier_of (own x) (first_of own es) ≡ first_of own es) → Found (x ∷ es)
-    go later (inl z) = (0, omega arith, sym z ∙ e)
-    go later (inr z) = let r = later (sym z ∙ e) in (suc r.0, omega (arith, r.1), r.2)
+own_from own (x ∷ es) a e = elim (earlier_either (own x) (first_of own es)) [
+  | inl z ↦ (0, omega arith, sym z ∙ e)
+  | inr z ↦ (let r = own_from own es a (sym z ∙ e) in (suc r.0, omega (arith, r.1), r.2))
+]
 
 -- the choice: the first, which is then named, or the second
 chosen : (n : ℕ) (f g : Option Due) → ((a : Due) → f ≡ Some a → a.train ≡ n) → is_named n (earlier_of f g) ≡ false → earlier_of f g ≡ g
@@ -132,20 +121,14 @@ module _ (s : Settings) (q : Question) (t : Table) (n : ℕ) (f : WellFormed t) 
     where
       -- its own entry does not count, and no other is its own
       mine : (e : Entry) → Holds t n e → own_but s q n e ≡ None
-      mine e (inl h) = rw (own_free s q e h.0) (both_none (eqb e.number n))
-        where
-          both_none : (b : Bool) → ◌≡◌ {A = Option Due} (cond b None None) None
-          both_none true = refl
-          both_none false = refl
-      mine e (inr h) = rw (eq-eqb e.number n (own_says n e h.0).1)
+      mine e (inl h) = let o = own_free s q e h.0 in grind arith
+      mine e (inr h) = let o = own_says n e h.0 in grind (arith, nat_tests)
 
       others : (e : Entry) → is_of n e ≡ false → own_but s q n e ≡ own_of s q e
-      others e d = by (eqb e.number n) refl (is_present e.standing) refl
-        where
-          by : (b : Bool) → eqb e.number n ≡ b → (p : Bool) → is_present e.standing ≡ p → cond b None (own_of s q e) ≡ own_of s q e
-          by true z true p = absurd (true≢false (sym (says_own n e p (eqb-true e.number n z)) ∙ d))
-          by true z false p = sym (own_free s q e p)
-          by false z p y = refl
+      others e d = elim (cases_of (is_present e.standing)) [
+        | inl p ↦ (let o = says_own n e p in grind (arith, nat_tests, o))
+        | inr p ↦ (let o = own_free s q e p in grind arith)
+      ]
 
       go : (i : ℕ) → i < length t.places → Dec (i ≡ place_for t n) →
           own_but s q n (get_or t.places i away_entry) ≡ own_of s q (get_or (set t.places (place_for t n) away_entry) i away_entry)
@@ -195,11 +178,10 @@ module _ (s : Settings) (q : Question) (t : Table) (f : WellFormed t) where
 
   -- so for each number the table's first is the one that is first of its own and the rest
   first_each : (m : ℕ) → (r : Option Due) × (first_in s q t ≡ earlier_of (own_of s q (entry_of t m)) r)
-  first_each m = go (is_present (standing_of t m)) refl
-    where
-      go : (b : Bool) → is_present (standing_of t m) ≡ b → (r : Option Due) × (first_in s q t ≡ earlier_of (own_of s q (entry_of t m)) r)
-      go true p = (first_in s q (put t m away_entry), first_here s q t m f (inl p))
-      go false p = (first_in s q t, rw (own_free s q (entry_of t m) p) (sym (nobody_earlier (first_in s q t))))
+  first_each m = elim (cases_of (is_present (standing_of t m))) [
+    | inl p ↦ (first_in s q (put t m away_entry), first_here s q t m f (inl p))
+    | inr p ↦ (first_in s q t, rw (own_free s q (entry_of t m) p) (sym (nobody_earlier (first_in s q t))))
+  ]
 
   pub first_is : IsFirst (λ n. own_of s q (entry_of t n)) (first_in s q t)
   first_is = record {
@@ -227,11 +209,7 @@ look_from own test l same (e ∷ es) =
 -- a train has reached its own instant
 own_reached : (s : Settings) (q : Question) (t : ℕ) (e : Entry) → reached_by t (own_of s q e) ≡ (has_own q e.standing && leb (instant_of s q e) t)
 unfolding own_of reached_by
-own_reached s q t e = go (has_own q e.standing)
-  where
-    go : (has : Bool) → reached_by t (cond has (Some (due e.number (instant_of s q e))) None) ≡ (has && leb (instant_of s q e) t)
-    go true = refl
-    go false = refl
+own_reached s q t e = grind arith
 
 module _ (s : Settings) (table : Table) where
   pub due_first : (t : ℕ) → reached_by t (first_in s question.Due table) ≡ due_by table s t

@@ -4,10 +4,10 @@ use mathlib.Core.Bool.{Bool, true, false, cond, true≢false}
 use mathlib.Core.List.{List}
 use Prim.Native.Nat.{ℕ, ◌≤◌}
 use native.Mathlib.Omega.{arith}
-use lib.Dec.{leb, ltb}
+use lib.Dec.{leb}
 use lib.ListN.{length, get_or, get_or-eq_default}
-use Rattle.std.specs.Prelude.{Option, Some, None, Result, Ok, Err}
-use Rattle.std.specs.List.{position, position_or_len}
+use Rattle.std.specs.Prelude.{Option, Some, None, Ok, Err}
+use Rattle.std.specs.List.{position}
 use Rattle.std.proofs.lemmas.Bool.Decides.{nat_tests}
 use Rattle.std.proofs.lemmas.List.Quantifiers.{position-Some}
 use Rattle.trains.specs.declared.Entry.{Entry}
@@ -20,11 +20,7 @@ use Rattle.trains.proofs.Laws.{own_says, absent_away, index_place}
 -- ---- the first place of an entry that passes a test, as a search answers it
 module _ (test : Entry → Bool) (l : List Entry) where
   position_index : (i : ℕ) → position test l ≡ Some i → index_of test l ≡ i
-  position_index i e = index_position test l ∙ go (ltb (position_or_len test l) (length l)) e
-    where
-      go : (b : Bool) → cond b (Some (position_or_len test l)) None ≡ Some i → position_or_len test l ≡ i
-      go true p = cc
-      go false p = absurd (cc)
+  position_index i e = let p = index_position test l in grind arith
 
   none_index : position test l ≡ None → length l ≤ index_of test l
   none_index e = let p = index_position test l in grind (arith, nat_tests)
@@ -64,17 +60,8 @@ module _ (t : Table) (n : ℕ) where
   -- the entry of a train, by what is found
   pub entry_found : (i : ℕ) → found_for t n ≡ Ok i → get_or t.places i away_entry ≡ entry_of t n
   unfolding found_for place_for entry_of
-  entry_found i e = go (is_present (standing_of t n)) e
-    where
-      go : (b : Bool) → ◌≡◌ {A = Result ℕ (Option ℕ)} (cond b (Ok (cond b (index_of (is_of n) t.places) (index_of is_free t.places))) (Err (cond (leb 96 (place_for t n)) None (Some (place_for t n))))) (Ok i) →
-          get_or t.places i away_entry ≡ get_or t.places (index_of (is_of n) t.places) away_entry
-      go true p = cc
-      go false p = absurd (cc)
+  entry_found i e = grind arith
 
   pub entry_unfound : (free : Option ℕ) → found_for t n ≡ Err free → entry_of t n ≡ away_entry
   unfolding found_for
-  entry_unfound free e = absent_away t n (go (is_present (standing_of t n)) e)
-    where
-      go : (b : Bool) → ◌≡◌ {A = Result ℕ (Option ℕ)} (cond b (Ok (place_for t n)) (Err (cond (leb 96 (place_for t n)) None (Some (place_for t n))))) (Err free) → b ≡ false
-      go true p = absurd (cc)
-      go false p = refl
+  entry_unfound free e = absent_away t n (grind arith)
