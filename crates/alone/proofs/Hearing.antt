@@ -11,7 +11,10 @@ use lib.Seq.{drop-cons}
 use Rattle.settings.specs.declared.Settings.{Settings}
 use Rattle.settings.specs.declared.Verdict.TheVariants.{Taken, Refused}
 use Rattle.cabinet.specs.declared.Cabinet.{Cabinet}
-use Rattle.cabinet.specs.Cabinet.{Stepped, number_of, fresh_cabinet, started}
+use Rattle.cabinet.specs.declared.Answer.{Answer}
+use Rattle.cabinet.specs.Cabinet.{Stepped, number_of, fresh_cabinet}
+use Rattle.settings.specs.Settings.{verdict_of}
+use Rattle.settings.proofs.Laws.{verdict_taken}
 use Rattle.bench.specs.declared.Event.TheVariants as events
 use Rattle.runs.specs.declared.Feed.TheVariants.{ToCabinet}
 use Rattle.runs.specs.declared.Letter.{Letter}
@@ -61,28 +64,23 @@ module _ {ls ns : List ℕ} {old : Told} {first : Cabinet}
     (long : Beside ToCabinet ls (length ns) (length ns) (length old.answers) (length old.orders) (length old.named))
     {new : Told} {c : Cabinet} {i : ℕ} (t : Hearing ls ns old first new c i) where
   -- a turn: the letter as read, and what the cabinet makes of it
-  pub hearing_next : i < length ls → {w : Option Letter} → w ≡ letter_of (get_or ls i 0) → {m : Stepped} → m ≡ hearing c (heard_by w (get_or ns i 0)) →
-      {u v z : ℕ} → u ≡ number_of m.answer → v ≡ answer_byte m.answer → z ≡ answer_train m.answer →
-      Hearing ls ns old first (told_at new i u v z) m.cabinet (i + 1)
-  hearing_next less {w} is {m} e p q r =
+  pub hearing_next : i < length ls → {w : Option Letter} → w ≡ letter_of (get_or ls i 0) → {a : Answer} → a ≡ (hearing c (heard_by w (get_or ns i 0))).answer →
+      {after : Cabinet} → after ≡ (hearing c (heard_by w (get_or ns i 0))).cabinet →
+      {u v z : ℕ} → u ≡ number_of a → v ≡ answer_byte a → z ≡ answer_train a → Hearing ls ns old first (told_at new i u v z) after (i + 1)
+  hearing_next less {w} is {a} ea ec p q r =
       let one = heard_one w (get_or ns i 0) (ap is_heard is ∙ letter_at ToCabinet ls i long.belong less) in
-      let step : m ≡ cabinet_stepped c one.0 = e ∙ ap (hearing c) one.1 in
+      let step : hearing c (heard_by w (get_or ns i 0)) ≡ cabinet_stepped c one.0 = ap (hearing c) one.1 in
+      let answer : a ≡ cabinet_answer c one.0 = ea ∙ ap (λ (g : Stepped). g.answer) step in
       let by : heard_by (letter_of (get_or ls i 0)) (get_or ns i 0) ≡ one.0 ∷ [] = ap (λ (v : Option Letter). heard_by v (get_or ns i 0)) (sym is) ∙ one.1 in
       let rest = heard_next ls ns i less (omega (arith, long.by_numbers)) ∙ ap (λ (xs : List Heard). xs ++ heard_from ls ns (i + 1)) by in
       record {
-        went = went_next t.went (told_long long) less rest
-            (ap (λ (g : Stepped). g.cabinet) step) (rw step at p) (rw step at q) (rw step at r);
+        went = went_next t.went (told_long long) less rest (ec ∙ ap (λ (g : Stepped). g.cabinet) step) (rw answer at p) (rw answer at q) (rw answer at r);
       }
 
   pub hearing_end : length ls ≤ i → WentThrough cabinet_next cabinet_answer first (heard_of ls ns) c old new
   hearing_end h = went_end t.went (told_long long) (heard_end ls ns i h)
 
 -- ---- the run
-
--- a start gives a fresh cabinet
-pub started_fresh : (s : Settings) (m : Stepped) → m ≡ started s → m.cabinet ≡ fresh_cabinet s
-unfolding started
-started_fresh s m e = ap (λ (m : Stepped). m.cabinet) e
 
 pub alone_taken : (s : Settings) (xs : List Heard) (k : ℕ) (r : Cabinet) (old new : Told) → k ≡ 0 →
     WentThrough cabinet_next cabinet_answer (fresh_cabinet s) xs r old new → AloneRan s xs k (record { verdict = Taken; cabinet = r }) old new
@@ -93,3 +91,12 @@ alone_taken s xs k r old new z w =
 pub alone_refused : (s : Settings) (xs : List Heard) (k : ℕ) (old : Told) → (k ≡ 0 → ⊥) → AloneRan s xs k (record { verdict = Refused k; cabinet = fresh_cabinet s }) old old
 alone_refused s xs zero old n = absurd (n refl)
 alone_refused s xs (suc k) old n = record { ended = refl; written = refl }
+
+-- as the code has it: refused, or the cabinet went through the list
+pub ran_refused : (s : Settings) (xs : List Heard) (k n : ℕ) (old : Told) → Refused n ≡ verdict_of k → AloneRan s xs k (record { verdict = Refused n; cabinet = fresh_cabinet s }) old old
+ran_refused s xs zero n old e = absurd (cc)
+ran_refused s xs (suc k) n old e = let z : suc k ≡ n = cc in rw (← z) (alone_refused s xs (suc k) old (λ y. omega arith))
+
+pub ran_taken : (s : Settings) (xs : List Heard) (k : ℕ) (r : Cabinet) (old new : Told) → Taken ≡ verdict_of k →
+    WentThrough cabinet_next cabinet_answer (fresh_cabinet s) xs r old new → AloneRan s xs k (record { verdict = Taken; cabinet = r }) old new
+ran_taken s xs k r old new e w = alone_taken s xs k r old new (verdict_taken k (sym e)) w

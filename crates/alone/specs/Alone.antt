@@ -1,9 +1,12 @@
--- A cabinet alone and a list of what it hears that lies in lent slices: what `run` writes and gives back (document 01, "Cabinet": it hears
--- approach, leave and clock, never occupy or the arm). Decides beyond it, as `runs::run` does: the letters are the record's, A, B, E, F, L and T; a list
+-- A cabinet alone and a list of what it hears that lies in lent slices: what `run` writes and gives back. It hears approach, leave and clock,
+-- never occupy or the arm. As `runs::run` has it, the letters are the record's, A, B, E, F, L and T; a list
 -- with any other letter is refused as a whole, 15, and slices that are shorter than the letters, 14, after it. Assumes nothing.
-use Rattle.std.specs.Prelude.{ℕ, zero, suc, ◌≡◌, List, [], ◌∷◌, ◌++◌, map, None, Some, Option}
+use Rattle.std.specs.Prelude.{ℕ, zero, suc, ◌≡◌, List, [], ◌∷◌, ◌++◌, map, None, Some, Option, Result, Ok, Err}
 use Rattle.settings.specs.declared.Settings.{Settings}
+use Rattle.settings.specs.declared.Verdict.{Verdict}
 use Rattle.settings.specs.declared.Verdict.TheVariants.{Taken, Refused}
+use Rattle.settings.specs.declared.refusal.Refusal.{Refusal}
+use Rattle.settings.specs.Refusal as refusals
 use Rattle.cabinet.specs.declared.Cabinet.{Cabinet}
 use Rattle.cabinet.specs.Cabinet.{Stepped, number_of, order_of, fresh_cabinet, refused}
 use Rattle.bench.specs.declared.Event.TheVariants as events
@@ -13,7 +16,6 @@ use Rattle.runs.specs.declared.Letter.TheVariants as letter
 use Rattle.runs.specs.Letters.{letter_of}
 use Rattle.runs.specs.Claims.{Heard, approaching, leaving, ticking, cabinet_stepped, cabinet_after, cabinet_answers}
 use Rattle.runs.specs.Run.{Told, run_refusal, told_unless}
-use Rattle.alone.specs.declared.Ended.{Ended}
 
 -- ---- the list
 
@@ -42,6 +44,16 @@ hearing c (x ∷ xs) = cabinet_stepped c x
 -- the number that refuses it: the settings' own 1 to 4, 15 a letter that a cabinet does not hear, 14 last, a slice is too short
 abbrev pub alone_refusal : Settings → List ℕ → ℕ → ℕ → ℕ → ℕ → ℕ
 alone_refusal s letters numbers answers orders named = run_refusal ToCabinet s letters numbers numbers answers orders named
+
+-- whether a list was taken, and the cabinet after it
+pub record Ended : Type 0 where
+  pub verdict : Verdict
+  pub cabinet : Cabinet
+
+-- as `run` gives it back: the cabinet, or a refusal, which leaves none
+abbrev pub ended : Settings → Result Cabinet Refusal → Ended
+ended s (Ok c) = record { verdict = Taken; cabinet = c }
+ended s (Err r) = record { verdict = Refused (refusals.number_of r); cabinet = fresh_cabinet s }
 
 -- what comes back: the cabinet after the list, or the fresh one where it is refused
 abbrev pub ended_by : ℕ → Settings → List Heard → Ended

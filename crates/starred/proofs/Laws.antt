@@ -6,9 +6,8 @@ use mathlib.Core.List.{List, [], ◌∷◌, map}
 use lib.ListN.{length, get_or}
 use borrow.Author.Tests.{leb-true}
 use Rattle.worked.specs.Worked.{K}
-use Rattle.runs.specs.declared.Finished.{Finished}
 use Rattle.runs.specs.declared.Feed.TheVariants.{ToBench}
-use Rattle.runs.specs.Run.{Told, told, run_refusal, Ran}
+use Rattle.runs.specs.Run.{Finished, Told, told, run_refusal, Ran}
 use Rattle.starred.specs.declared.Listed.{Listed}
 use Rattle.starred.specs.Tables.{Same, letters_in, steps_in, nine_zeros, ruled, expected}
 

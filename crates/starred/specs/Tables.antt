@@ -1,4 +1,4 @@
--- The tables of the starred cases: the rules give what every row expects (document 01, "Bench cases"). Assumes nothing.
+-- The tables of the starred cases: the rules give what every row expects. Assumes nothing.
 use Rattle.std.specs.Prelude.{ℕ, ◌≡◌, Bool, true, List, [], map, leb, length, take, replicate}
 use Rattle.settings.specs.Settings.{ticks_for, number_of, verdict}
 use Rattle.worked.specs.Worked.{like, K}

@@ -1,5 +1,5 @@
-// The starred bench cases of document 01 through the built functions, as three tables. Each check is proved: by the contracts of what it
-// calls, and by what the rules give for the whole table.
+//! The starred cases through the built functions, as three tables. Each check is proved: by the contracts of what it calls, and by what the rules
+//! give for the whole table.
 #![tactic(auto)]
 
 ghost use Rattle.std.specs.Prelude.{◌≡◌};
@@ -116,62 +116,49 @@ const LISTS: [Listed; 7] = [
 ];
 
 // D for each fall rate, and the refusal number of each settings.
-fn check_settings(falls: [Fall; 5], changes: [Change; 5])
-    requires { FallsRight falls × ChangesRight changes }
+fn check_settings(falls: &[Fall], changes: &[Change])
+    requires { FallsRight falls.now × ChangesRight changes.now }
 {
-    for i in 0..5 {
-        let f = falls[i];
-        check::expect(settings::ticks_for(f.0) == f.1);
-        let x = changes[i];
-        let s = worked::settings_like(x.0, x.1, x.2, x.3);
-        check::expect(settings::number(settings::check(s)) == x.4);
+    for fall in falls {
+        check::expect(settings::ticks_for(fall.0) == fall.1);
     }
-}
-
-// The trains that a run wrote are those expected.
-fn check_trains(named: [u32; 9], trains: [u32; 9])
-    requires { named ≡ trains }
-{
-    for i in 0..9 {
-        check::expect(named[i] == trains[i]);
+    for change in changes {
+        let settings = worked::settings_like(change.0, change.1, change.2, change.3);
+        check::expect(settings::number(&settings.check()) == change.4);
     }
 }
 
 // A run of the list under K writes its numbers, its commands and the trains of its lowers.
-fn check_list(x: Listed)
-    requires { ruled x ≡ expected x }
+fn check_list(list: &Listed)
+    requires { ruled list.now ≡ expected list.now }
 {
-    let n = x.steps;
-    let letters = x.letters;
-    let numbers = x.numbers;
-    let readings = x.readings;
     let mut answers = [0u8; 9];
     let mut orders = [0u8; 9];
     let mut named = [0u32; 9];
-    runs::run(
-        worked::settings_k(),
-        &letters[..n],
-        &numbers,
-        &readings,
+    let _ = runs::run(
+        &worked::settings_k(),
+        &list.letters[..list.steps],
+        &list.numbers,
+        &list.readings,
         &mut answers,
         &mut orders,
         &mut named,
     );
-    let answered = check::same(&answers, &x.answers);
-    check::expect(answered & check::same(&orders, &x.orders));
-    check_trains(named, x.named);
+    check::expect(answers == list.answers);
+    check::expect(orders == list.orders);
+    check::expect(named == list.named);
 }
 
 // Each list of the table.
-fn check_lists(lists: [Listed; 7])
-    requires { ListsRight lists }
+fn check_lists(lists: &[Listed])
+    requires { ListsRight lists.now }
 {
-    for i in 0..7 {
-        check_list(lists[i]);
+    for list in lists {
+        check_list(list);
     }
 }
 
 fn main() {
-    check_settings(FALLS, CHANGES);
-    check_lists(LISTS);
+    check_settings(&FALLS, &CHANGES);
+    check_lists(&LISTS);
 }

@@ -1,22 +1,22 @@
-use Rattle.std.proofs.Common.{sym, ◌∙◌}
+use Rattle.std.specs.Prelude.{Err}
+use Rattle.std.proofs.Common.{◌≡◌, rules, sym}
 use Rattle.runs.specs.declared.Feed.TheVariants.{ToCabinet}
+use Rattle.settings.proofs.Laws.{verdict_taken}
 use Rattle.runs.specs.Run.{told}
 use Rattle.runs.proofs.Running.{run_beside}
-use Rattle.alone.proofs.Hearing.{started_fresh, alone_taken, alone_refused}
+use Rattle.alone.proofs.Hearing.{ran_refused, ran_taken}
 use Rattle.alone.proofs.run.Goals as goal
 
-pub go_through-last-requires : goal.go_through-last-requires
-go_through-last-requires c = run_beside ToCabinet _ _ _ _ _ _ _ (sym c.run_refusal-k.ensures ∙ c.if-k-eq0.true)
+pub go_through-requires : goal.go_through-requires
+go_through-requires c = run_beside ToCabinet _ _ _ _ _ _ _ (verdict_taken _ (sym c.in_ok-check_run.ensures))
 
-pub returns-then-k-eq0 : goal.returns-then-k-eq0
-returns-then-k-eq0 c =
+pub returns-in_err-check_run : goal.returns-in_err-check_run
+returns-in_err-check_run c =
     let a = c.args in
-    alone_taken a.s _ _ _ (told a.answers.now a.orders.now a.named.now) _
-    (sym c.run_refusal-k.ensures ∙ c.if-k-eq0.true)
-    (rw (started_fresh a.s _ c.start.ensures) at c.go_through-last.ensures)
+    let e : c.from_residual.result ≡ Err c.in_err-check_run.field-0.0 = search rules in
+    rw e (ran_refused a.settings.now _ _ _ (told a.answers.now a.orders.now a.named.now) c.in_err-check_run.ensures)
 
-pub returns-else-k-eq0 : goal.returns-else-k-eq0
-returns-else-k-eq0 c =
+pub returns : goal.returns
+returns c =
     let a = c.args in
-    rw (← c.run_refusal-k.ensures, started_fresh a.s _ c.start.ensures)
-    (alone_refused a.s _ c.run_refusal-k.result (told a.answers.now a.orders.now a.named.now) c.if-k-eq0.false)
+    ran_taken a.settings.now _ _ _ (told a.answers.now a.orders.now a.named.now) _ c.in_ok-check_run.ensures (rw c.fresh-cabinet.ensures at c.go_through.ensures)

@@ -4,9 +4,9 @@ use Rattle.starred.proofs.Laws.{each}
 use Rattle.starred.proofs.check_settings.Goals as goal
 
 pub expect-requires : goal.expect-requires
-expect-requires c = eq-eqb _ _ (c.ticks_for.ensures ∙ each _ c.requires.0 c.loop-i.i (search rules))
+expect-requires c = eq-eqb _ _ (c.ticks_for.ensures ∙ each _ c.requires.0 c.loop-fall.fall-index (search rules))
 
-pub expect-requires-in-loop-i : goal.expect-requires-in-loop-i
-expect-requires-in-loop-i c =
+pub expect-requires-in-loop-change : goal.expect-requires-in-loop-change
+expect-requires-in-loop-change c =
     eq-eqb _ _
-    (c.number.ensures ∙ ap number_of (c.check.ensures ∙ ap verdict c.settings_like-s.ensures) ∙ each _ c.requires.1 c.loop-i.i (search rules))
+    (c.number.ensures ∙ ap number_of (c.check.ensures ∙ ap verdict c.settings_like-settings.ensures) ∙ each _ c.requires.1 c.loop-change.change-index (search rules))
