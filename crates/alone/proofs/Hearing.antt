@@ -9,12 +9,11 @@ use mathlib.Core.List.{List, [], ◌∷◌, ◌++◌}
 use lib.ListN.{length, drop, get_or, drop_of_length-le}
 use lib.Seq.{drop-cons}
 use Rattle.settings.specs.declared.Settings.{Settings}
-use Rattle.settings.specs.declared.Verdict.TheVariants.{Taken, Refused}
 use Rattle.cabinet.specs.declared.Cabinet.{Cabinet}
-use Rattle.cabinet.specs.declared.Answer.{Answer}
-use Rattle.cabinet.specs.Cabinet.{Stepped, number_of, fresh_cabinet}
+use Rattle.cabinet.specs.Cabinet.{Answer, Stepped, number_of, fresh_cabinet}
 use Rattle.settings.specs.Settings.{verdict_of}
 use Rattle.settings.proofs.Laws.{verdict_taken}
+use Rattle.settings.specs.Refusal.{Taken, Refused}
 use Rattle.bench.specs.declared.Event.TheVariants as events
 use Rattle.runs.specs.declared.Feed.TheVariants.{ToCabinet}
 use Rattle.runs.specs.declared.Letter.{Letter}

@@ -3,10 +3,9 @@
 -- with any other letter is refused as a whole, 15, and slices that are shorter than the letters, 14, after it. Assumes nothing.
 use Rattle.std.specs.Prelude.{ℕ, zero, suc, ◌≡◌, List, [], ◌∷◌, ◌++◌, map, None, Some, Option, Result, Ok, Err}
 use Rattle.settings.specs.declared.Settings.{Settings}
-use Rattle.settings.specs.declared.Verdict.{Verdict}
-use Rattle.settings.specs.declared.Verdict.TheVariants.{Taken, Refused}
 use Rattle.settings.specs.declared.refusal.Refusal.{Refusal}
 use Rattle.settings.specs.Refusal as refusals
+use Rattle.settings.specs.Refusal.{Taken, Refused, Verdict}
 use Rattle.cabinet.specs.declared.Cabinet.{Cabinet}
 use Rattle.cabinet.specs.Cabinet.{Stepped, number_of, order_of, fresh_cabinet, refused}
 use Rattle.bench.specs.declared.Event.TheVariants as events

@@ -19,8 +19,7 @@ use Rattle.trains.specs.Table.{away_entry, inside_entry, put, is_full}
 use Rattle.trains.specs.First.{First, has_own, instant_of, own_of, earlier_of, first_in, rest_of}
 use Rattle.trains.proofs.Laws.{Fits, Room, coming_fits, inside_fits, present_own, fresh_formed, put_formed}
 use Rattle.trains.proofs.Firsts.{own_none, own_some, own_free, own_away, first_same, first_joined, first_rest, first_gone, first_fresh, late_first}
-use Rattle.cabinet.specs.declared.Answer.TheVariants.{Refused}
-use Rattle.cabinet.specs.Cabinet.{looked_at, later, ticked, approach_refusal}
+use Rattle.cabinet.specs.Cabinet.{Refused, looked_at, later, ticked, approach_refusal}
 use Rattle.cabinet.proofs.Laws.{approach_says, approach_place}
 use Rattle.cabinet.proofs.Kept.{order_full}
 use Rattle.bench.specs.declared.Event.{Event}

@@ -11,8 +11,7 @@ use Rattle.trains.specs.declared.Question.TheVariants.{Due, Latest}
 use Rattle.trains.specs.declared.Table.{Table}
 use Rattle.trains.specs.Table.{away_entry, inside_entry, put, some_late, is_full, WellFormed}
 use Rattle.trains.specs.First.{first_in}
-use Rattle.cabinet.specs.declared.Answer.TheVariants.{Taken, Refused}
-use Rattle.cabinet.specs.Cabinet.{later, approach_refusal}
+use Rattle.cabinet.specs.Cabinet.{Taken, Refused, later, approach_refusal}
 use Rattle.cabinet.specs.Full.{full_looked_at}
 use Rattle.bench.specs.declared.Event.{Event}
 use Rattle.bench.specs.declared.Event.TheVariants.{Approach, Occupy, Leave}

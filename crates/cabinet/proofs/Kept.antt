@@ -17,10 +17,9 @@ use Rattle.trains.specs.Table.{away_entry, entry_of, standing_of, put, is_full}
 use Rattle.trains.specs.First.{First, own_of, earlier_of, train_of, first_in, rest_of}
 use Rattle.trains.proofs.Laws.{Fits, Room, coming_fits, fresh_formed, put_formed}
 use Rattle.trains.proofs.Firsts.{own_free, first_joined, first_rest, first_fresh, due_first}
-use Rattle.cabinet.specs.declared.Answer.TheVariants.{Refused}
 use Rattle.cabinet.specs.declared.Control.{Control}
 use Rattle.cabinet.specs.declared.Cabinet.{Cabinet}
-use Rattle.cabinet.specs.Cabinet.{Stepped, fresh_cabinet, horizon, order, order_for, looked_at, looked, refused, placed, coming_now, with_control, later, ticked, approach_refusal, leave_refusal, approached, left, clocked}
+use Rattle.cabinet.specs.Cabinet.{Refused, Stepped, fresh_cabinet, horizon, order, order_for, looked_at, looked, refused, placed, coming_now, with_control, later, ticked, approach_refusal, leave_refusal, approached, left, clocked}
 use Rattle.cabinet.specs.Full.{Kept, full_order, full_looked, full_put, full_approached, full_left, full_clocked}
 use Rattle.cabinet.proofs.Laws.{approach_says, approach_place, leave_says}
 

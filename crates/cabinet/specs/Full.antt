@@ -11,10 +11,9 @@ use Rattle.trains.specs.declared.Table.{Table}
 use Rattle.trains.specs.Table.{away_entry, standing_of, put, due_by, is_full, WellFormed}
 use Rattle.trains.specs.First.{train_of, first_in}
 use Rattle.cabinet.specs.declared.Order.{Order}
-use Rattle.cabinet.specs.declared.Answer.TheVariants.{Taken}
 use Rattle.cabinet.specs.declared.Control.{Control}
 use Rattle.cabinet.specs.declared.Cabinet.{Cabinet}
-use Rattle.cabinet.specs.Cabinet.{Stepped, Controlled, horizon, order_for, command_after, later, refused, coming_now, approach_refusal, leave_refusal}
+use Rattle.cabinet.specs.Cabinet.{Taken, Stepped, Controlled, horizon, order_for, command_after, later, refused, coming_now, approach_refusal, leave_refusal}
 
 -- what is kept is what settings and table say: D and U, and the soonest due present train, of equals the lowest number
 pub record Kept (c : Cabinet) : Type 0 where

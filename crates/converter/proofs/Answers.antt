@@ -6,7 +6,6 @@ use mathlib.Core.Bool.{false, false≢true}
 use mathlib.Core.List.{List, []}
 use lib.ListN.{length}
 use borrow.Author.Tests.{le-leb, lt-leb, ne_eqb}
-use Rattle.settings.specs.declared.Verdict.TheVariants.{Taken, Refused}
 use Rattle.lines.specs.declared.Layout.{Layout}
 use Rattle.lines.specs.Layout.{line_bytes}
 use Rattle.lines.specs.Bytes.{splice}
@@ -24,6 +23,7 @@ use Rattle.converter.specs.Convert.{other_text, refused_with, converted, is_take
 use Rattle.converter.specs.Restore.{Converts}
 use Rattle.converter.proofs.Lengths.{other_long}
 use Rattle.converter.proofs.Restore.{restores}
+use Rattle.settings.specs.Refusal.{Taken, Refused}
 
 -- an accepted text has its head
 pub head_there : (f : Layout) (t : List ℕ) → (read_text f t).verdict ≡ Taken → head_bytes f ≤ length t

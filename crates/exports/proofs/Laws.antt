@@ -9,8 +9,8 @@ use mathlib.Core.List.{List, []}
 use lib.ListN.{length}
 use Rattle.settings.specs.declared.Settings.{Settings}
 use Rattle.settings.specs.Settings.{number_of}
-use Rattle.cabinet.specs.declared.Answer.TheVariants.{Taken}
 use Rattle.cabinet.specs.Cabinet as cabinet
+use Rattle.cabinet.specs.Cabinet.{Taken}
 use Rattle.runs.specs.declared.Step.{Step}
 use Rattle.runs.specs.declared.Finished.{Finished}
 use Rattle.runs.specs.Run.{Told, finished_by, unless_refused, Ran}

@@ -1,9 +1,8 @@
 -- What the functions of the static library give: those of `runs`, `alone`, `recording`, `reader`, `converter` and `report`, by numbers and slices. Assumes nothing.
 use Rattle.std.specs.Prelude.{ℕ, zero, suc, ◌+◌, ◌*◌, ◌%◌, ◌≡◌, cond, List, [], eqb, length}
 use Rattle.settings.specs.declared.Settings.{Settings}
-use Rattle.settings.specs.declared.Verdict.{Verdict}
-use Rattle.settings.specs.declared.Verdict.TheVariants.{Taken, Refused}
 use Rattle.settings.specs.Settings.{number_of}
+use Rattle.settings.specs.Refusal.{Taken, Refused, Verdict}
 use Rattle.runs.specs.declared.Step.{Step}
 use Rattle.runs.specs.History as rules
 use Rattle.runs.specs.Run.{Told, unless_refused, told_unless}

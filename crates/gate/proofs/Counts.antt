@@ -1,8 +1,7 @@
 -- Laws of counts: so many bytes are at a buffer's start, and no text is longer than the program's buffers. Assumes nothing.
 use Rattle.std.proofs.Common.{◌≡◌, ℕ, ◌+◌, ◌-◌, ◌*◌, ◌/◌, ◌≤◌, Bool, true, false, cond, eqb, leb, List, [], length, sym, refl, ap, ◌∙◌, subst, arith, length-append, length-drop, length-take, le-leb, leb-true}
 use Rattle.gate.specs.Held.{IsPrefixLen}
-use Rattle.settings.specs.declared.Verdict.{Verdict}
-use Rattle.settings.specs.declared.Verdict.TheVariants.{Taken, Refused}
+use Rattle.settings.specs.Refusal.{Taken, Refused, Verdict}
 use Rattle.lines.specs.declared.Layout.{Layout}
 use Rattle.lines.specs.declared.Layout.TheVariants.{Old, New}
 use Rattle.lines.specs.Layout.{line_bytes}

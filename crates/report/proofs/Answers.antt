@@ -5,7 +5,6 @@ use mathlib.Core.Path.{◌≡◌, sym, ap, subst, ◌∙◌}
 use mathlib.Core.List.{List, ◌++◌}
 use lib.ListN.{length, length-append}
 use borrow.Author.Tests.{le-leb, lt-leb}
-use Rattle.settings.specs.declared.Verdict.TheVariants.{Taken}
 use Rattle.lines.specs.Bytes.{splice}
 use Rattle.lines.proofs.Splices.{splice_then}
 use Rattle.lines.proofs.Places.{wrote_only, kept_only}
@@ -24,6 +23,7 @@ use Rattle.report.specs.Rows.{ns, os, rows_in, row_lines, Space}
 use Rattle.report.proofs.Rows.{length_row}
 use Rattle.report.proofs.Joining.{os_few}
 use Rattle.report.proofs.Merge.{rows_bytes}
+use Rattle.settings.specs.Refusal.{Taken}
 
 -- ---- lines that fit, and lines that do not
 

@@ -7,8 +7,7 @@ use mathlib.Core.List.{List}
 use lib.Dec.{ltb}
 use lib.ListN.{length}
 use borrow.Author.Tests.{ltb-false}
-use Rattle.settings.specs.declared.Verdict.{Verdict}
-use Rattle.settings.specs.declared.Verdict.TheVariants.{Taken, Refused}
+use Rattle.settings.specs.Refusal.{Taken, Refused, Verdict}
 use Rattle.recorder.specs.Text.{current}
 use Rattle.reader.specs.Read.{read_text}
 use Rattle.reader.specs.Round.{run_of}

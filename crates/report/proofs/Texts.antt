@@ -7,8 +7,8 @@ use mathlib.Core.List.{List}
 use lib.Dec.{ltb, leb, eqb}
 use lib.ListN.{length, drop}
 use borrow.Author.Tests.{lt-ltb, le-ltb}
-use Rattle.settings.specs.declared.Verdict.TheVariants.{Taken, Refused}
 use Rattle.settings.specs.Values.{no_settings}
+use Rattle.settings.specs.Refusal.{Taken, Refused}
 use Rattle.lines.specs.Layout.{line_bytes, first_line, last_line}
 use Rattle.lines.specs.Bytes.{starts}
 use Rattle.reader.specs.declared.Outcome.{Outcome}

@@ -3,7 +3,6 @@
 #![tactic(auto)]
 
 ghost use Rattle.std.specs.Prelude.{◌≡◌, ◌+◌, ◌*◌, ◌<◌, ◌≤◌, cond, length};
-ghost use Rattle.settings.specs.declared.Verdict.TheVariants.{Taken};
 ghost use Rattle.lines.specs.Bytes.{splice};
 ghost use Rattle.recorder.specs.Text.{current};
 ghost use Rattle.reader.specs.Read.{read_text};
@@ -12,6 +11,7 @@ ghost use Rattle.report.specs.Report.{report_line, stretch_line, run_report, ref
 ghost use Rattle.report.specs.Report.{written_bytes, short_buffer, ReportWritten};
 ghost use Rattle.report.specs.Touching.{join};
 ghost use Rattle.report.specs.Rows.{touches, Found, JoinsFrom, comes_first, os, row_lines, Space};
+ghost use Rattle.settings.specs.Refusal.{Taken};
 
 use settings::Verdict;
 use stretches::{Next, Stretch};

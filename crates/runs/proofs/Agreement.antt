@@ -31,9 +31,8 @@ use Rattle.trains.specs.First.{has_own, instant_of, own_of, train_of, first_in}
 use Rattle.trains.proofs.Firsts.{first_is}
 use Rattle.trains.proofs.Laws.{Fits, Room, coming_fits, inside_fits, present_own, fresh_formed, fresh_away, fresh_present, less_room, put_present, put_formed, put_same, put_other, some_train_law, train_some}
 use Rattle.cabinet.specs.declared.Order.{Order}
-use Rattle.cabinet.specs.declared.Answer.TheVariants.{Taken}
 use Rattle.cabinet.specs.declared.Control.{Control}
-use Rattle.cabinet.specs.Cabinet.{Controlled, number_of, order_of, horizon, order_for, command_after, later, approach_refusal}
+use Rattle.cabinet.specs.Cabinet.{Taken, Controlled, number_of, order_of, horizon, order_for, command_after, later, approach_refusal}
 use Rattle.cabinet.specs.Full.{full_order, full_looked_at}
 use Rattle.bench.specs.declared.Motion.{Motion}
 use Rattle.bench.specs.declared.Bench.{Bench}

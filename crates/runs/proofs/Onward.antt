@@ -6,8 +6,7 @@ use mathlib.Core.Path.{◌≡◌, ap, ◌∙◌}
 use mathlib.Core.List.{List}
 use lib.Ieee.{Float, nan}
 use lib.ListN.{length, get_or}
-use Rattle.cabinet.specs.declared.Answer.{Answer}
-use Rattle.cabinet.specs.Cabinet.{number_of}
+use Rattle.cabinet.specs.Cabinet.{Answer, number_of}
 use Rattle.bench.specs.declared.Bench.{Bench}
 use Rattle.runs.specs.declared.Feed.TheVariants.{ToBench}
 use Rattle.runs.specs.declared.Step.{Step}

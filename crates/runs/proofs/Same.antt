@@ -17,7 +17,7 @@ use Rattle.bench.specs.declared.Event.{Event}
 use Rattle.bench.specs.declared.Event.TheVariants as events
 use Rattle.bench.specs.Bench.{fresh_bench}
 use Rattle.cabinet.specs.declared.Order.{Order}
-use Rattle.cabinet.specs.declared.Answer.{Answer}
+use Rattle.cabinet.specs.Cabinet.{Answer}
 use Rattle.runs.specs.declared.Step.{Step}
 use Rattle.runs.specs.declared.Step.TheVariants.{Approach, Occupy, Leave, Clock}
 use Rattle.runs.specs.History.{History, instant, Place, away, coming, inside, place, is_away, is_coming, since, trains_present, due_at, latest_at, some_train, some_due, some_late, lowering, raising, look, command, step_refusal, keep, after, given, order_at, history, step_refusals, orders, kind_of}

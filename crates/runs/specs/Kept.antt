@@ -4,9 +4,8 @@
 use Rattle.std.specs.Prelude.{ℕ, ◌≡◌, List, take}
 use Rattle.settings.specs.declared.Settings.{Settings}
 use Rattle.arm.specs.Shown.{reading_of}
-use Rattle.cabinet.specs.declared.Answer.{Answer}
 use Rattle.cabinet.specs.declared.Cabinet.{Cabinet}
-use Rattle.cabinet.specs.Cabinet.{Stepped, fresh_cabinet}
+use Rattle.cabinet.specs.Cabinet.{Answer, Stepped, fresh_cabinet}
 use Rattle.cabinet.specs.Full as cabinet
 use Rattle.bench.specs.declared.Bench.{Bench}
 use Rattle.bench.specs.declared.Event.TheVariants as events

@@ -8,8 +8,7 @@ use Rattle.settings.specs.declared.Settings.{Settings}
 use Rattle.settings.specs.Settings.{Accepted}
 use Rattle.cabinet.specs.declared.Order.{Order}
 use Rattle.cabinet.specs.declared.Order.TheVariants.{Lower, Raise}
-use Rattle.cabinet.specs.declared.Answer.{Answer}
-use Rattle.cabinet.specs.Cabinet.{number_of, order_of}
+use Rattle.cabinet.specs.Cabinet.{Answer, number_of, order_of}
 use Rattle.bench.specs.declared.Bench.{Bench}
 use Rattle.bench.specs.declared.Event.{Event}
 use Rattle.bench.specs.declared.Event.TheVariants as events

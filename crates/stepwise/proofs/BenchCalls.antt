@@ -23,8 +23,7 @@ use Rattle.trains.specs.declared.Table.{Table}
 use Rattle.trains.specs.Table.{away_entry, fresh_table, place_for}
 use Rattle.trains.specs.First.{First, Asked, reached_by}
 use Rattle.cabinet.specs.declared.Order.{Order}
-use Rattle.cabinet.specs.declared.Answer.TheVariants.{Taken, Refused}
-use Rattle.cabinet.specs.Cabinet.{number_of, order_of, later}
+use Rattle.cabinet.specs.Cabinet.{Taken, Refused, number_of, order_of, later}
 use Rattle.bench.specs.declared.Event.{Event}
 use Rattle.bench.specs.declared.Event.TheVariants as events
 use Rattle.bench.specs.declared.Head.{Head}

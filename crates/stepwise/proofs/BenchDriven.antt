@@ -22,7 +22,7 @@ use Rattle.trains.specs.Table.{away_entry, inside_entry, index_of, is_of, entry_
 use Rattle.trains.specs.First.{First, reached_by}
 use Rattle.trains.proofs.Laws.{place_room, train_says}
 use Rattle.cabinet.specs.declared.Order.{Order}
-use Rattle.cabinet.specs.declared.Answer.TheVariants as answers
+use Rattle.cabinet.specs.Cabinet as answers
 use Rattle.cabinet.specs.declared.Control.{Control}
 use Rattle.cabinet.specs.Cabinet.{order, looked_at, later, ticked}
 use Rattle.cabinet.proofs.Laws.{approach_says}

@@ -26,10 +26,9 @@ use Rattle.trains.specs.First.{First, Asked, own_of, earlier_of, reached_by, res
 use Rattle.trains.proofs.Laws.{place_room}
 use Rattle.arm.specs.declared.Command.TheVariants.{Up, Down}
 use Rattle.cabinet.specs.declared.Order.{Order}
-use Rattle.cabinet.specs.declared.Answer.TheVariants.{Taken, Refused}
 use Rattle.cabinet.specs.declared.Control.{Control}
 use Rattle.cabinet.specs.declared.Cabinet.{Cabinet}
-use Rattle.cabinet.specs.Cabinet.{Stepped, Controlled, number_of, order_of, fresh_cabinet, started, refused, approach_refusal, leave_refusal, order, looked_at, looked, placed, later, ticked, approached, left, clocked}
+use Rattle.cabinet.specs.Cabinet.{Taken, Refused, Stepped, Controlled, number_of, order_of, fresh_cabinet, started, refused, approach_refusal, leave_refusal, order, looked_at, looked, placed, later, ticked, approached, left, clocked}
 use Rattle.cabinet.proofs.Laws.{approach_says, leave_says}
 use Rattle.runs.specs.Claims as heard
 use Rattle.runs.specs.Letters.{letter_of}

@@ -16,9 +16,8 @@ use Rattle.trains.specs.declared.Question.TheVariants.{Due}
 use Rattle.trains.specs.First.{First, rest_of}
 use Rattle.trains.specs.Table.{away_entry, place_for, put, no_place, standing_of}
 use Rattle.trains.proofs.Laws.{train_says}
-use Rattle.cabinet.specs.declared.Answer.TheVariants.{Refused}
 use Rattle.cabinet.specs.declared.Cabinet.{Cabinet}
-use Rattle.cabinet.specs.Cabinet.{Stepped, fresh_cabinet, order, looked_at, looked, refused, placed, later, ticked, leave_refusal, approached, left, clocked, with_control}
+use Rattle.cabinet.specs.Cabinet.{Refused, Stepped, fresh_cabinet, order, looked_at, looked, refused, placed, later, ticked, leave_refusal, approached, left, clocked, with_control}
 use Rattle.cabinet.proofs.Laws.{approach_says}
 use Rattle.runs.specs.Claims.{Heard, approaching, leaving, ticking, cabinet_stepped, cabinet_next, cabinet_answer, cabinet_after}
 use Rattle.runs.proofs.Claims.{claims}

@@ -17,9 +17,7 @@ use Rattle.settings.proofs.Laws.{refuse_none}
 use Rattle.cabinet.specs.declared.Order.{Order}
 use Rattle.cabinet.specs.declared.Order.TheVariants as order
 use Rattle.cabinet.specs.declared.Control.{Control}
-use Rattle.cabinet.specs.declared.Answer.{Answer}
-use Rattle.cabinet.specs.declared.Answer.TheVariants.{Taken, Refused}
-use Rattle.cabinet.specs.Cabinet.{number_of, order_of, start_answer}
+use Rattle.cabinet.specs.Cabinet.{Taken, Refused, Answer, number_of, order_of, start_answer}
 use Rattle.runs.specs.Run.{or_else, or_full}
 use Rattle.stepwise.specs.declared.Named.{Named}
 use Rattle.stepwise.specs.declared.Named.TheVariants.{As, Nothing}

@@ -9,10 +9,10 @@ use Rattle.trains.specs.declared.Entry.{Entry}
 use Rattle.trains.specs.declared.Table.{Table}
 use Rattle.trains.specs.Table.{away_entry, fresh_table, place_for, put}
 use Rattle.trains.proofs.Lists.{get_d_same}
-use Rattle.cabinet.specs.declared.Answer.{Answer}
 use Rattle.runs.specs.Steps.{state_after, answers_to}
 use Rattle.stepwise.specs.Calls.{Called, called, packed_answer, or_no_step}
 use Rattle.stepwise.specs.Driven.{Holdable, words_after, answers_after, with_named, steps_named, beside_named, answers_beside}
+use Rattle.cabinet.specs.Cabinet.{Answer}
 
 -- ---- tables that words can hold
 

@@ -13,9 +13,7 @@ use Rattle.arm.specs.Shown as arm
 use Rattle.arm.specs.Shown.{reading_of}
 use Rattle.trains.specs.Table.{place_for}
 use Rattle.cabinet.specs.declared.Order.TheVariants.{Lower, Raise}
-use Rattle.cabinet.specs.declared.Answer.{Answer}
-use Rattle.cabinet.specs.declared.Answer.TheVariants.{Taken, Refused}
-use Rattle.cabinet.specs.Cabinet.{Stepped, number_of, approached, left, clocked, order_of}
+use Rattle.cabinet.specs.Cabinet.{Taken, Refused, Answer, Stepped, number_of, approached, left, clocked, order_of}
 use Rattle.bench.specs.declared.Event.{Event}
 use Rattle.bench.specs.declared.Event.TheVariants as events
 use Rattle.bench.specs.Bench.{Moved, sensed, clock_read}

@@ -14,12 +14,10 @@ use Rattle.trains.specs.First.{First}
 use Rattle.trains.specs.declared.Table.{Table}
 use Rattle.trains.specs.Trains.{is_train}
 use Rattle.trains.specs.Table.{away_entry, is_of, is_free}
-use Rattle.cabinet.specs.declared.Answer.{Answer}
-use Rattle.cabinet.specs.declared.Answer.TheVariants.{Taken, Refused}
 use Rattle.cabinet.specs.declared.Order.{Order}
 use Rattle.cabinet.specs.declared.Order.TheVariants as order
 use Rattle.cabinet.specs.declared.Control.{Control}
-use Rattle.cabinet.specs.Cabinet.{number_of, later, ticked}
+use Rattle.cabinet.specs.Cabinet.{Taken, Refused, Answer, number_of, later, ticked}
 use Rattle.bench.specs.declared.Event.TheVariants as events
 use Rattle.bench.specs.declared.Head.{Head}
 use Rattle.bench.specs.declared.Motion.{Motion}

@@ -7,9 +7,8 @@ use Rattle.settings.specs.declared.Settings.{Settings}
 use Rattle.settings.specs.Settings.{Accepted}
 use Rattle.trains.specs.declared.Table.{Table}
 use Rattle.trains.specs.Table.{away_entry}
-use Rattle.cabinet.specs.declared.Answer.{Answer}
 use Rattle.cabinet.specs.declared.Cabinet.{Cabinet}
-use Rattle.cabinet.specs.Cabinet.{fresh_cabinet}
+use Rattle.cabinet.specs.Cabinet.{Answer, fresh_cabinet}
 use Rattle.bench.specs.declared.Bench.{Bench}
 use Rattle.bench.specs.Bench.{fresh_bench}
 use Rattle.runs.specs.declared.Step.{Step}
