@@ -566,7 +566,7 @@ fn show_report<R: Print>(
         &mut named,
         text,
     );
-    report::report(text, lines);
+    let _ = report::report(text, lines);
     print(rt, b"\n");
     print(rt, lines);
 }
@@ -681,7 +681,7 @@ fn five_digits<R: Print>(rt: &R) {
 fn sample<R: Print>(rt: &R) {
     let text = sample_record(1);
     let mut lines = [0u8; 57];
-    report::report(&text, &mut lines);
+    let _ = report::report(&text, &mut lines);
     print(rt, &text);
     print(rt, &lines);
 }

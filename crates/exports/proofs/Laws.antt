@@ -25,8 +25,7 @@ use Rattle.recorder.specs.Recording.{run_so_far}
 use Rattle.recording.specs.RunRecorded.{run_gives, run_leaves, RunRecorded}
 use Rattle.recorder.proofs.Recording.{spliced_always, ends_always}
 use Rattle.lines.specs.Bytes.{fits}
-use Rattle.report.specs.declared.Reported.{Reported}
-use Rattle.report.specs.Report.{written_bytes, short_buffer, ReportWritten}
+use Rattle.report.specs.Report.{Reported, written_bytes, short_buffer, ReportWritten}
 use Rattle.exports.specs.Exports.{Answered, CabinetAnswered, pack, bytes_of, RecordAnswered, pack_converted, ConvertAnswered, Reports}
 use Rattle.lines.specs.declared.Layout.{Layout}
 use Rattle.converter.specs.declared.Converted.{Converted}

@@ -1,10 +1,10 @@
 -- A cursor and an answer of `stretches` by seven numbers. Assumes nothing.
-use Rattle.std.specs.Prelude.{ℕ, ◌≡◌, Bool, cond, List, [], ◌∷◌, leb, ltb, length, get_or}
+use Rattle.std.specs.Prelude.{ℕ, ◌≡◌, Bool, cond, List, [], ◌∷◌, leb, ltb, length, get_or, true, Option, Some, None}
 use Rattle.runs.specs.Run.{over}
 use Rattle.stretches.specs.declared.Cursor.{Cursor}
-use Rattle.stretches.specs.declared.Next.{Next}
 use Rattle.stretches.specs.declared.Sort.{Sort}
-use Rattle.stretches.specs.Walk.{ahead, next_of}
+use Rattle.stretches.specs.Span.{Span}
+use Rattle.stretches.specs.Walk.{Next, ahead, next_of}
 
 -- place, instant, whether the arm is below 90 degrees (0 no), trains inside
 abbrev pub cursor_of : ℕ → ℕ → ℕ → ℕ → Cursor
@@ -26,6 +26,11 @@ found_number found running = cond found (cond running 2 1) 0
 abbrev pub next_numbers : Next → List ℕ
 next_numbers r =
     r.cursor.at ∷ r.cursor.now ∷ flag r.cursor.low ∷ r.cursor.inside ∷ found_number r.found r.stretch.running ∷ r.stretch.first ∷ r.stretch.last ∷ []
+
+-- what is found, its first and its last instant
+abbrev pub found_numbers : Option Span → List ℕ
+found_numbers None = 0 ∷ 0 ∷ 0 ∷ []
+found_numbers (Some x) = found_number true x.running ∷ x.first ∷ x.last ∷ []
 
 -- the answer that a cursor gets
 abbrev pub next_from : Sort → List ℕ → Cursor → Next

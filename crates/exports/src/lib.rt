@@ -11,7 +11,7 @@ ghost use Rattle.lines.specs.declared.Layout.TheVariants.{Old, New};
 ghost use Rattle.recorder.specs.Text.{current};
 ghost use Rattle.reader.specs.Read.{read_text};
 ghost use Rattle.stretches.specs.declared.Sort.TheVariants.{Lowered, Occupied};
-ghost use Rattle.stretches.specs.Walk.{start_cursor, nothing_from, stretches_ahead};
+ghost use Rattle.stretches.specs.Walk.{start_cursor, nothing_from, answered, stretches_ahead};
 ghost use Rattle.stretches.specs.Figures.{total};
 ghost use Rattle.report.specs.Report.{report_of};
 ghost use Rattle.stepwise.specs.Calls.{called};
@@ -23,12 +23,12 @@ ghost use Rattle.stepwise.specs.Shown.{posed, showed, pose_shown, gate_shown};
 ghost use Rattle.exports.specs.Exports.{Answered, CabinetAnswered, RecordAnswered, packed, pack_converted, ConvertAnswered, Reports};
 ghost use Rattle.exports.specs.State.{kind_number, bench_numbers, state_refusal, StateAnswered};
 ghost use Rattle.exports.specs.Look.{looks, look_refusal, LookAnswered};
-ghost use Rattle.exports.specs.Places.{cursor_of, cursor_in, flag, found_number, next_numbers, next_from, Placed};
+ghost use Rattle.exports.specs.Places.{cursor_of, cursor_in, flag, found_numbers, next_numbers, next_from, Placed};
 
 use bench::Bench;
 use converter::Converted;
 use settings::Verdict;
-use stretches::{Cursor, Next, Sort, Stretch};
+use stretches::{Cursor, Sort, Stretch};
 use trains::{Entry, Standing};
 
 // A bench under the settings, thirteen values in their order (one that is missing is 0, and so refused, 1), run through a list of steps
@@ -365,10 +365,10 @@ pub extern "C" fn weqhaso_to_old(text: &[u8], out: &mut [u8]) -> u64
 pub extern "C" fn weqhaso_report(text: &[u8], out: &mut [u8]) -> u64
     ensures { Reports (report_of text.now) out.old result out.new }
 {
-    let r = report::report(text, out);
-    let v = r.verdict;
-    let bytes = r.bytes as u64;
-    (bytes % 72057594037927936) * 256 + (settings::number(v) as u64)
+    match report::report(text, out) {
+        Ok(bytes) => (bytes as u64 % 72057594037927936) * 256,
+        Err(refusal) => refusal.number() as u64,
+    }
 }
 
 fn cursor_of(at: usize, now: usize, low: usize, inside: usize) -> Cursor
@@ -388,49 +388,53 @@ fn flag_of(b: bool) -> usize
     if b { 1 } else { 0 }
 }
 
-// 0 none, 1 ended, 2 running.
-fn found_number(found: bool, running: bool) -> usize
-    ensures { result ≡ found_number found running }
+// What is found: 0 nothing, 1 a stretch that has ended or 2 one that is running; and its first and its last instant.
+fn found_numbers(found: Option<Stretch>) -> [usize; 3]
+    ensures { result ≡ found_numbers found }
 {
-    if found {
-        if running { 2 } else { 1 }
-    } else {
-        0
+    match found {
+        None => [0, 0, 0],
+        Some(stretch) => [
+            if stretch.is_running() { 2 } else { 1 },
+            stretch.first(),
+            stretch.last(),
+        ],
     }
 }
 
-// An answer by numbers: its cursor's place, instant, whether the arm is below 90 degrees, and trains inside; what is found, its first and
-// its last instant.
-fn write_next(n: Next, places: &mut [usize])
+// A cursor and what was found before it, by numbers.
+#[tactic(auto, using(crate::proofs::Places::numbers_answered))]
+fn write_next(found: Option<Stretch>, cursor: Cursor, places: &mut [usize])
     requires { 7 ≤ length places.old }
-    ensures { places.new ≡ over (next_numbers n) places.old }
+    ensures { places.new ≡ over (next_numbers (answered found cursor)) places.old }
 {
-    let c = n.cursor;
-    let x = n.stretch;
-    places[0] = c.at;
-    places[1] = c.now;
-    places[2] = flag_of(c.low);
-    places[3] = c.inside;
-    places[4] = found_number(n.found, x.running);
-    places[5] = x.first;
-    places[6] = x.last;
+    let [number, first, last] = found_numbers(found);
+    places[..7].copy_from_slice(&[
+        cursor.at,
+        cursor.now,
+        flag_of(cursor.low),
+        cursor.inside,
+        number,
+        first,
+        last,
+    ]);
 }
 
 // The next answer from the cursor in the first four places on, in their place.
-fn next_into(which: Sort, text: &[u8], places: &mut [usize]) -> u8
-    ensures { Placed (next_numbers (next_from which text.now (cursor_in places.old)))
+fn next_into(sort: Sort, text: &[u8], places: &mut [usize]) -> u8
+    ensures { Placed (next_numbers (next_from sort text.now (cursor_in places.old)))
         places.old result places.new }
 {
     if places.len() < 7 {
         return 14;
     }
-    let c = cursor_of(places[0], places[1], places[2], places[3]);
-    let n = stretches::next_of(which, text, c);
-    write_next(n, places);
+    let mut cursor = cursor_of(places[0], places[1], places[2], places[3]);
+    let found = cursor.next_stretch(sort, text);
+    write_next(found, cursor, places);
     0
 }
 
-// The cursor before the first step of a text (`stretches::start`), in the first four of seven places, and nothing found in the other three:
+// The cursor before the first step of a text (`stretches::Cursor::start`), in the first four of seven places, and nothing found in the other three:
 // 0, or 14 where there are fewer places.
 #[unsafe(no_mangle)]
 pub extern "C" fn weqhaso_start(places: &mut [usize]) -> u8
@@ -439,20 +443,11 @@ pub extern "C" fn weqhaso_start(places: &mut [usize]) -> u8
     if places.len() < 7 {
         return 14;
     }
-    let n = Next {
-        found: false,
-        stretch: Stretch {
-            first: 0,
-            last: 0,
-            running: false,
-        },
-        cursor: stretches::start(),
-    };
-    write_next(n, places);
+    write_next(None, Cursor::start(), places);
     0
 }
 
-// The next stretch with the arm below 90 degrees (`stretches::next_lowered`), from the cursor in the first four places on: the cursor after
+// The next stretch with the arm below 90 degrees (`stretches::Cursor::next_stretch`), from the cursor in the first four places on: the cursor after
 // it there, and in the other three 0 none, 1 ended or 2 running, its first and its last instant. 0, or 14 where there are fewer places.
 #[unsafe(no_mangle)]
 pub extern "C" fn weqhaso_next_lowered(text: &[u8], places: &mut [usize]) -> u8
@@ -462,7 +457,7 @@ pub extern "C" fn weqhaso_next_lowered(text: &[u8], places: &mut [usize]) -> u8
     next_into(Sort::Lowered, text, places)
 }
 
-// The next stretch with some train inside (`stretches::next_occupied`), in the same way, as they happened: where one begins at the instant
+// The next stretch with some train inside (`stretches::Cursor::next_stretch`), in the same way, as they happened: where one begins at the instant
 // where the one before it ended, the report joins them.
 #[unsafe(no_mangle)]
 pub extern "C" fn weqhaso_next_occupied(text: &[u8], places: &mut [usize]) -> u8
@@ -477,6 +472,5 @@ pub extern "C" fn weqhaso_next_occupied(text: &[u8], places: &mut [usize]) -> u8
 pub extern "C" fn weqhaso_below(text: &[u8]) -> usize
     ensures { result ≡ total (stretches_ahead Lowered text.now start_cursor) }
 {
-    let n = stretches::tally_lowered(text);
-    n.instants
+    stretches::tally_lowered(text).instants
 }

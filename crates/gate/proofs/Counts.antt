@@ -1,5 +1,6 @@
 -- Laws of counts: so many bytes are at a buffer's start, and no text is longer than the program's buffers. Assumes nothing.
-use Rattle.std.proofs.Common.{◌≡◌, ℕ, ◌+◌, ◌-◌, ◌*◌, ◌/◌, ◌≤◌, Bool, true, false, cond, eqb, leb, List, [], length, sym, refl, ap, ◌∙◌, subst, arith, length-append, length-drop, length-take, le-leb, leb-true}
+use Rattle.std.proofs.Common.{◌≡◌, ℕ, ◌+◌, ◌-◌, ◌*◌, ◌/◌, ◌≤◌, Bool, true, false, cond, eqb, leb, List, [], length, sym, refl, ap, ◌∙◌, subst, arith, length-append, length-drop, length-take, Ok, Err, le-leb, leb-true}
+use Rattle.std.specs.Prelude.{Result, IsOk}
 use Rattle.gate.specs.Held.{IsPrefixLen}
 use Rattle.settings.specs.Refusal.{Taken, Refused, Verdict}
 use Rattle.lines.specs.declared.Layout.{Layout}
@@ -18,19 +19,27 @@ use Rattle.converter.specs.Convert.{other_text, refused_with, converted_by, conv
 use Rattle.converter.specs.Restore.{Converts}
 use Rattle.converter.proofs.Lengths.{other_long}
 use Rattle.live.specs.declared.Given.{Given}
-use Rattle.report.specs.declared.Reported.{Reported}
-use Rattle.report.specs.Report.{ReportWritten}
+use Rattle.report.specs.declared.NoSpace.{NoSpace}
+use Rattle.report.specs.Report.{Reported, reported, ReportWritten}
 use Rattle.gate.specs.Held.{Held, other_of, Turned}
 
 -- a number that is at most a list's length
 pub counted : (n : ℕ) (xs : List ℕ) → n ≤ length xs → IsPrefixLen n xs
 counted n xs h = (h, simp length-take (omega arith))
 
--- a report that fits is at its buffer's start
-pub report_held : {lines out : List ℕ} {r : Reported} {after : List ℕ} → length lines ≤ length out → ReportWritten lines out r after → Held r.bytes lines out after
-report_held {lines} {out} {r} {after} h w =
+-- a report that fits is written
+pub report_fits : (lines out : List ℕ) (r : Result ℕ NoSpace) (after : List ℕ) → length lines ≤ length out → ReportWritten lines out (reported r) after → IsOk r
+report_fits lines out (Ok n) after h w = refl
+report_fits lines out (Err e) after h w =
     let f : fits out 0 (length lines) ≡ true = le-leb (0 + length lines) (length out) (omega arith) in
-    let given : r.bytes ≡ length lines = ap (λ (x : Reported). x.bytes) (rw f at w.gives) in
+    let same : Refused 14 ≡ Taken = ap (λ (x : Reported). x.verdict) (rw f at w.gives) in
+    absurd (cc)
+
+-- at its buffer's start
+pub report_held : {lines out : List ℕ} {r : Result ℕ NoSpace} {n : ℕ} {after : List ℕ} → length lines ≤ length out → r ≡ Ok n → ReportWritten lines out (reported r) after → Held n lines out after
+report_held {lines} {out} {r} {n} {after} h e w =
+    let f : fits out 0 (length lines) ≡ true = le-leb (0 + length lines) (length out) (omega arith) in
+    let given : n ≡ length lines = ap (λ (x : Reported). x.bytes) (rw (f, e) at w.gives) in
     let left : after ≡ splice out 0 lines = rw f at w.left in
     let long : length after ≡ length (splice out 0 lines) = ap length left in
     record { whole = given; bytes = left; within = counted _ _ (omega (arith, simp (length-append, length-drop) at long)) }

@@ -112,13 +112,12 @@ where
 }
 
 // The report of a text, at the start of a buffer that holds every report, its other bytes as they were: how many bytes the report has.
-#[tactic(auto, using(crate::proofs::Counts::report_held, report::proofs::Bounds::report_few))]
+#[tactic(auto, using(crate::proofs::Counts::report_fits, crate::proofs::Counts::report_held, report::proofs::Bounds::report_few))]
 fn make_report(text: &[u8], out: &mut [u8]) -> usize
     requires { 156000 ≤ length out.old }
     ensures { Held result (report_of text.now) out.old out.new }
 {
-    let r = report::report(text, out);
-    r.bytes
+    report::report(text, out).unwrap()
 }
 
 // Whether a report is that of a refused text: its one line has the letter R.

@@ -12,14 +12,21 @@ use Rattle.recorder.specs.Text.{current}
 use Rattle.reader.specs.Read.{read_text}
 use Rattle.reader.specs.Round.{run_of}
 use Rattle.stretches.specs.declared.Tally.{Tally}
-use Rattle.stretches.specs.declared.Sort.TheVariants.{Lowered}
-use Rattle.stretches.specs.Walk.{start_cursor}
+use Rattle.std.specs.Iterator.{YieldsFirst, Drains}
+use Rattle.std.proofs.lemmas.Iterator.Consumers.{YieldsList-from_first, count_from_yields_List}
+use Rattle.stretches.specs.declared.Sort.TheVariants.{Lowered, Occupied}
+use Rattle.stretches.specs.declared.Stretches.{Stretches}
+use Rattle.stretches.specs.Span.{Span}
+use Rattle.stretches.specs.Walk.{start_cursor, stretches_ahead}
+use Rattle.stretches.specs.Left.{stretches_left}
+use Rattle.report.specs.declared.joined.Joined.{Joined}
+use Rattle.report.specs.Touching.{joined}
+use Rattle.report.specs.Left.{joined_left}
 use Rattle.stretches.specs.Figures.{total, tallied}
 use Rattle.stretches.proofs.Texts.{text_lowered, text_occupied}
 use Rattle.stretches.proofs.Totals.{ahead_few, ahead_total, below_total}
-use Rattle.report.specs.declared.Reported.{Reported}
-use Rattle.report.specs.Report.{report_line, run_report, written_bytes, short_buffer, ReportWritten}
-use Rattle.report.specs.Rows.{ns, os, rows_in, row_lines, Space}
+use Rattle.report.specs.Report.{Reported, report_line, run_report, written_bytes, short_buffer, ReportWritten}
+use Rattle.report.specs.Rows.{ns, os, rows_in, row_lines}
 use Rattle.report.proofs.Rows.{length_row}
 use Rattle.report.proofs.Joining.{os_few}
 use Rattle.report.proofs.Merge.{rows_bytes}
@@ -40,6 +47,13 @@ module _ (lines out : List ℕ) (n : ℕ) (long : length lines ≡ n) where
 pub written_as : {lines same out after : List ℕ} {r : Reported} → lines ≡ same → ReportWritten lines out r after → ReportWritten same out r after
 written_as {out = out} {after = after} {r = r} e w = subst (λ (l : List ℕ). ReportWritten l out r after) e w
 
+-- ---- the joined stretches counted
+
+-- by going through them
+pub joined_counted : (t : List ℕ) (s : Stretches) (j : Joined) (n : ℕ) → stretches_left s ≡ stretches_ahead Occupied t start_cursor → joined_left j ≡ joined (stretches_left s) →
+    ((xs : List Span) × Drains (YieldsFirst joined_left) j xs × (n ≡ length xs)) → n ≡ length (os t)
+joined_counted t s j n p q r = count_from_yields_List j n r (YieldsList-from_first (λ (x : Span). x) joined_left (os t) (q ∙ ap joined p))
+
 -- ---- a run's report
 
 module _ (t : List ℕ) (accepted : (read_text current t).verdict ≡ Taken) where
@@ -55,7 +69,7 @@ module _ (t : List ℕ) (accepted : (read_text current t).verdict ≡ Taken) whe
 module _ (t : List ℕ) (n : Tally) (o : ℕ) (p : n ≡ tallied (ns t)) (q : o ≡ length (os t)) where
   -- the bytes of the rows
   abbrev pub end : ℕ
-  end = 19 * (n.stretches + o)
+  end = (n.stretches + o) * 19
 
   counted_rows : n.stretches + o ≡ rows_in t
   unfolding rows_in
@@ -67,16 +81,16 @@ module _ (t : List ℕ) (n : Tally) (o : ℕ) (p : n ≡ tallied (ns t)) (q : o 
       let b = os_few t in
       (rw p (omega arith), rw p (ahead_total Lowered t start_cursor), rw q (omega arith))
 
-  -- with the space, the rows can be written
-  pub counted_space : (out : List ℕ) → length t ≤ 65535 → end + 19 ≤ length out → Space t out
-  counted_space out h k = record { short = h; room = omega (arith, counted_rows) }
+  -- so many bytes have the rows
+  pub counted_end : end ≡ 19 * rows_in t
+  counted_end = omega (arith, counted_rows)
 
   module _ (accepted : (read_text current t).verdict ≡ Taken) (out : List ℕ) (a : Reported) where
     counted_lines : row_lines t ++ report_line o n.instants 90 ≡ run_report (run_of current t)
     counted_lines = rw (p, q) (report_lines t accepted)
 
     counted_bytes : length (run_report (run_of current t)) ≡ end + 19
-    counted_bytes = report_bytes t accepted ∙ rw counted_rows
+    counted_bytes = report_bytes t accepted ∙ omega (arith, counted_end)
 
     -- with the space for its lines, the report is written
     pub run_written : end + 19 ≤ length out → (e after : List ℕ) → e ≡ splice out 0 (row_lines t) →

@@ -3,21 +3,23 @@
 -- Assumes nothing.
 use Rattle.std.specs.Prelude.{ℕ, ◌<◌, ◌≤◌, ◌≡◌, List, [], ◌∷◌, ◌++◌, length}
 use Rattle.runs.specs.declared.Step.{Step}
-use Rattle.stretches.specs.declared.Stretch.{Stretch}
+use Rattle.stretches.specs.Span.{Span}
 use Rattle.stretches.specs.Stretches.{lowered_stretches, below}
 use Rattle.report.specs.Touching.{joined_stretches}
-use Rattle.report.specs.Report.{Row, N, O, report_line, lines_of, run_rows, run_report}
+use Rattle.report.specs.declared.row.Row.{Row}
+use Rattle.report.specs.declared.row.Row.TheVariants.{Lowered, Occupied}
+use Rattle.report.specs.Report.{report_line, lines_of, run_rows, run_report}
 
 -- a row's first instant
 abbrev pub first_of : Row → ℕ
-first_of (N x) = x.first
-first_of (O x) = x.first
+first_of (Lowered x) = x.first
+first_of (Occupied x) = x.first
 
 -- a row stands before one that begins later, and an N also before an O that begins at the same instant: so N before O if equal
 abbrev pub Before : Row → Row → Type 0
-Before r (N x) = first_of r < x.first
-Before (N y) (O x) = y.first ≤ x.first
-Before (O y) (O x) = y.first < x.first
+Before r (Lowered x) = first_of r < x.first
+Before (Lowered y) (Occupied x) = y.first ≤ x.first
+Before (Occupied y) (Occupied x) = y.first < x.first
 
 -- before each of these
 abbrev pub BeforeAll : Row → List Row → Type 0
@@ -30,15 +32,15 @@ Rises [] = Unit {0}
 Rises (r ∷ rs) = BeforeAll r rs × Rises rs
 
 -- the stretches of one kind, in the order of the rows
-abbrev pub rows_n : List Row → List Stretch
+abbrev pub rows_n : List Row → List Span
 rows_n [] = []
-rows_n (N x ∷ rs) = x ∷ rows_n rs
-rows_n (O x ∷ rs) = rows_n rs
+rows_n (Lowered x ∷ rs) = x ∷ rows_n rs
+rows_n (Occupied x ∷ rs) = rows_n rs
 
-abbrev pub rows_o : List Row → List Stretch
+abbrev pub rows_o : List Row → List Span
 rows_o [] = []
-rows_o (N x ∷ rs) = rows_o rs
-rows_o (O x ∷ rs) = x ∷ rows_o rs
+rows_o (Lowered x ∷ rs) = rows_o rs
+rows_o (Occupied x ∷ rs) = x ∷ rows_o rs
 
 -- the rows of every run's report
 pub record ReportOrder : Type 0 where

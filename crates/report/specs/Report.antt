@@ -1,7 +1,8 @@
 -- The report of a record text (document 01, "Report program"; document 02, Five). Assumes nothing.
 -- Decides beyond it: a buffer too short for an R line is 14 and 0 too; the answer says how many bytes were written.
-use Rattle.std.specs.Prelude.{ℕ, ◌+◌, ◌≡◌, cond, List, [], ◌∷◌, ◌++◌, leb, ltb, length}
-use Rattle.settings.specs.Refusal.{Taken, Refused, Verdict}
+use Rattle.std.specs.Prelude.{ℕ, ◌+◌, ◌≡◌, cond, List, [], ◌∷◌, ◌++◌, leb, ltb, length, Result, Ok, Err}
+use Rattle.settings.specs.declared.Verdict.{Verdict}
+use Rattle.settings.specs.declared.Verdict.TheVariants.{Taken, Refused}
 use Rattle.lines.specs.Numeral.{numeral}
 use Rattle.lines.specs.Place.{WritesOnly}
 use Rattle.lines.specs.Bytes.{fits, splice}
@@ -9,8 +10,10 @@ use Rattle.runs.specs.declared.Step.{Step}
 use Rattle.recorder.specs.Text.{current}
 use Rattle.reader.specs.Read.{read_text}
 use Rattle.reader.specs.Round.{run_of}
-use Rattle.report.specs.declared.Reported.{Reported}
-use Rattle.stretches.specs.declared.Stretch.{Stretch}
+use Rattle.report.specs.declared.NoSpace.{NoSpace}
+use Rattle.report.specs.declared.row.Row.{Row}
+use Rattle.report.specs.declared.row.Row.TheVariants.{Lowered, Occupied}
+use Rattle.stretches.specs.Span.{Span}
 use Rattle.stretches.specs.Stretches.{lowered_stretches, below}
 use Rattle.report.specs.Touching.{joined_stretches}
 
@@ -21,19 +24,16 @@ unfoldable pub report_line : ℕ → ℕ → ℕ → List ℕ
 report_line n m c = numeral 8 n ++ (numeral 8 m ++ (32 ∷ c ∷ 10 ∷ []))
 
 -- a stretch's letter: the small one where it is still running
-abbrev pub stretch_letter : ℕ → Stretch → ℕ
+abbrev pub stretch_letter : ℕ → Span → ℕ
 stretch_letter c x = cond x.running (c + 32) c
 
-abbrev pub stretch_line : ℕ → Stretch → List ℕ
+abbrev pub stretch_line : ℕ → Span → List ℕ
 stretch_line c x = report_line x.first x.last (stretch_letter c x)
 
 -- a row of a report: an N (or n) stretch, or an O (or o) stretch
-pub data Row : Type 0 where
-  N O : Stretch → Row
-
 abbrev pub row_line : Row → List ℕ
-row_line (N x) = stretch_line 78 x
-row_line (O x) = stretch_line 79 x
+row_line (Lowered x) = stretch_line 78 x
+row_line (Occupied x) = stretch_line 79 x
 
 -- the rows' lines, one after another
 unfoldable pub lines_of : List Row → List ℕ
@@ -41,11 +41,11 @@ lines_of [] = []
 lines_of (r ∷ rs) = row_line r ++ lines_of rs
 
 -- the stretches of both kinds by first instant, N before O if equal, stretches of one kind as they happened (that they are in that order: Order)
-unfoldable pub rows : List Stretch → List Stretch → List Row
+unfoldable pub rows : List Span → List Span → List Row
 rows [] [] = []
-rows (n ∷ ns) [] = N n ∷ rows ns []
-rows [] (o ∷ os) = O o ∷ rows [] os
-rows (n ∷ ns) (o ∷ os) = cond (leb n.first o.first) (N n ∷ rows ns (o ∷ os)) (O o ∷ rows (n ∷ ns) os)
+rows (n ∷ ns) [] = Lowered n ∷ rows ns []
+rows [] (o ∷ os) = Occupied o ∷ rows [] os
+rows (n ∷ ns) (o ∷ os) = cond (leb n.first o.first) (Lowered n ∷ rows ns (o ∷ os)) (Occupied o ∷ rows (n ∷ ns) os)
 
 -- ---- reports
 
@@ -71,6 +71,12 @@ report_of t = cond (ltb 65535 (length t)) (refusal_report 14 0) (report_by (read
 
 -- ---- a report written into a lent buffer
 
+-- whether the report was written, as the number of a refusal at a line says it, and how many bytes it has
+pub record Reported : Type 0 where
+  pub verdict : Verdict
+  pub line : ℕ
+  pub bytes : ℕ
+
 -- so many bytes were written
 abbrev pub written_bytes : ℕ → Reported
 written_bytes n = record { verdict = Taken; line = 0; bytes = n }
@@ -78,6 +84,10 @@ written_bytes n = record { verdict = Taken; line = 0; bytes = n }
 -- the buffer is too short
 abbrev pub short_buffer : Reported
 short_buffer = record { verdict = Refused 14; line = 0; bytes = 0 }
+
+abbrev pub reported : Result ℕ NoSpace → Reported
+reported (Ok n) = written_bytes n
+reported (Err e) = short_buffer
 
 -- the lines from the buffer's first byte on and all else as it was; or all as it was; byte by byte, the lines in their place and no other byte
 pub record ReportWritten (lines out : List ℕ) (r : Reported) (after : List ℕ) : Type 0 where

@@ -1,61 +1,44 @@
--- How the code joins and merges the stretches of two cursors: the words of its private contracts. What a report says stands in Report.
+-- How the code joins and merges the stretches of two kinds: the words of its private contracts. What a report says stands in Report.
 -- Assumes nothing.
-use Rattle.std.specs.Prelude.{ℕ, ◌+◌, ◌*◌, ◌≤◌, ◌≡◌, Bool, true, not, ◌&&◌, ◌||◌, List, ◌∷◌, leb, length}
-use Rattle.stretches.specs.declared.Next.{Next}
-use Rattle.stretches.specs.declared.Sort.TheVariants.{Lowered, Occupied}
-use Rattle.stretches.specs.declared.Stretch.{Stretch}
-use Rattle.stretches.specs.Walk.{start_cursor, stretches_ahead, headed}
-use Rattle.report.specs.declared.Joined.{Joined}
-use Rattle.report.specs.Touching.{touch, joined}
-use Rattle.report.specs.Report.{rows, lines_of}
+use Rattle.std.specs.Prelude.{ℕ, ◌+◌, Bool, true, false, leb, List, length, Option, Some, None}
+use Rattle.stretches.specs.declared.Sort.TheVariants as sort
+use Rattle.stretches.specs.Span.{Span}
+use Rattle.stretches.specs.Walk.{start_cursor, stretches_ahead}
+use Rattle.report.specs.declared.row.Row.{Row}
+use Rattle.report.specs.declared.row.Row.TheVariants.{Lowered, Occupied}
+use Rattle.report.specs.Touching.{joined}
+use Rattle.report.specs.Report.{stretch_letter, rows, lines_of}
 
--- ---- joining
+-- a row's stretch, and its letter
+abbrev pub stretch_of : Row → Span
+stretch_of (Lowered x) = x
+stretch_of (Occupied x) = x
 
--- what the answer o has: its O stretch, where one is found, and those after it
-abbrev pub occupied_from : List ℕ → Next → List Stretch
-occupied_from t o = headed o (stretches_ahead Occupied t o.cursor)
+abbrev pub letter_of : Row → ℕ
+letter_of (Lowered x) = stretch_letter 78 x
+letter_of (Occupied x) = stretch_letter 79 x
 
--- a stretch is found, and begins at the instant where x ends
-abbrev pub touches : Stretch → Next → Bool
-touches x o = o.found && touch x o.stretch
-
--- a stretch's instants are in order, and no more than so many
-abbrev pub Within : ℕ → Stretch → Type 0
-Within n x = (x.first ≤ x.last) × (x.last ≤ n)
-
--- a stretch is found, within the text
-pub record Found (t : List ℕ) (o : Next) : Type 0 where
-  pub found : o.found ≡ true
-  pub within : Within (length t) o.stretch
-
--- r has the first of the joined stretches that o has, and its answer has the others
-pub record JoinsFrom (t : List ℕ) (o : Next) (r : Joined) : Type 0 where
-  pub stands : joined (occupied_from t o) ≡ r.stretch ∷ joined (occupied_from t r.next)
-  pub within : Within (length t) r.stretch
-  pub beyond : Within (length t) r.next.stretch
-
--- ---- merging
-
--- the N stretch found comes before the O stretch found
-abbrev pub comes_first : Next → Next → Bool
-comes_first n o = n.found && (not o.found || leb n.stretch.first o.stretch.first)
+-- the N stretch comes before the O stretch, where there is one of each; one that is alone comes first
+abbrev pub comes_first : Option Span → Option Span → Bool
+comes_first None o = false
+comes_first (Some n) None = true
+comes_first (Some n) (Some o) = leb n.first o.first
 
 -- all N stretches of a text, and all O stretches, joined, off its lines
-abbrev pub ns : List ℕ → List Stretch
-ns t = stretches_ahead Lowered t start_cursor
+abbrev pub ns : List ℕ → List Span
+ns t = stretches_ahead sort.Lowered t start_cursor
 
-abbrev pub os : List ℕ → List Stretch
-os t = joined (stretches_ahead Occupied t start_cursor)
+abbrev pub os : List ℕ → List Span
+os t = joined (stretches_ahead sort.Occupied t start_cursor)
 
 -- how many
 unfoldable pub rows_in : List ℕ → ℕ
 rows_in t = length (ns t) + length (os t)
 
--- their lines, merged
-unfoldable pub row_lines : List ℕ → List ℕ
-row_lines t = lines_of (rows (ns t) (os t))
+-- merged
+abbrev pub rows_of : List ℕ → List Row
+rows_of t = rows (ns t) (os t)
 
--- a text that is reported, and the buffer has space for its rows
-pub record Space (t out : List ℕ) : Type 0 where
-  pub short : length t ≤ 65535
-  pub room : 19 * rows_in t ≤ length out
+-- their lines
+unfoldable pub row_lines : List ℕ → List ℕ
+row_lines t = lines_of (rows_of t)

@@ -40,13 +40,15 @@ impl Stretch {
     }
 
     pub fn first(self) -> usize
-        ensures { result ≡ self.first }
+        ensures value { result ≡ self.first }
+        ensures ordered { self.first ≤ self.last }
     {
         self.first
     }
 
     pub fn last(self) -> usize
-        ensures { result ≡ self.last }
+        ensures value { result ≡ self.last }
+        ensures ordered { self.first ≤ self.last }
     {
         self.last
     }
