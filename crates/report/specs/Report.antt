@@ -1,8 +1,7 @@
 -- The report of a record text (document 01, "Report program"; document 02, Five). Assumes nothing.
 -- Decides beyond it: a buffer too short for an R line is 14 and 0 too; the answer says how many bytes were written.
 use Rattle.std.specs.Prelude.{ℕ, ◌+◌, ◌≡◌, cond, List, [], ◌∷◌, ◌++◌, leb, ltb, length, Result, Ok, Err}
-use Rattle.settings.specs.declared.Verdict.{Verdict}
-use Rattle.settings.specs.declared.Verdict.TheVariants.{Taken, Refused}
+use Rattle.settings.specs.Refusal.{Taken, Refused, Verdict}
 use Rattle.lines.specs.Numeral.{numeral}
 use Rattle.lines.specs.Place.{WritesOnly}
 use Rattle.lines.specs.Bytes.{fits, splice}

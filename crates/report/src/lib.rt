@@ -7,11 +7,11 @@ mod line;
 mod row;
 
 ghost use Rattle.std.specs.Prelude.{◌≡◌, ◌<◌, ◌≤◌, length};
-ghost use Rattle.settings.specs.declared.Verdict.TheVariants.{Taken};
 ghost use Rattle.recorder.specs.Text.{current};
 ghost use Rattle.reader.specs.Read.{read_text};
 ghost use Rattle.reader.specs.Round.{run_of};
 ghost use Rattle.report.specs.Report.{run_report, refusal_report, report_of, reported, ReportWritten};
+ghost use Rattle.settings.specs.Refusal.{Taken};
 
 use joined::Joined;
 use line::Line;
