@@ -1,5 +1,5 @@
 -- The course of a crossing: what is said of it at each moment of a list of steps, what a step does to its trains, its clock, its arm and its command,
--- and the grounds for an arm that is not up. A crossing whose raise may have to wait (document 02, Eleven) has such a course too; the single crossing
+-- and the grounds for an arm that is not up. A crossing whose raise may have to wait has such a course too; the single crossing
 -- never waits (Single). Assumes nothing.
 use Prim.Native.Nat.{ℕ, suc, ◌+◌, ◌≤◌, ◌<◌}
 use native.Mathlib.Omega.{arith}
@@ -47,7 +47,7 @@ pub record Moment : Type 1 where
   pub place : ℕ → Place
   pub due : ℕ → ℕ
   pub latest : ℕ → ℕ
-  -- a train counts as inside where a closed road is explained; apart from `place`, since one that is withdrawn is to count too (document 02, Thirteen)
+  -- a train counts as inside where a closed road is explained; apart from `place`, since one that is withdrawn is to count too
   pub Passing : Type 0
 
 -- the train is present

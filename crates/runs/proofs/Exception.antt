@@ -1,4 +1,4 @@
--- Case j of document 01: an approach beside a leave, the one way the arm stays down, the other way it is raised. Assumes nothing.
+-- The exception of two sensors in one tick: an approach beside a leave, the one way the arm stays down, the other way it is raised. Assumes nothing.
 use native.Mathlib.Omega.{arith}
 use mathlib.Core.Path.{refl}
 use mathlib.Core.List.{[]}

@@ -1,4 +1,4 @@
--- What is kept beside the table over every list of steps (document 02, "Eight"): from a fresh bench, and from a fresh cabinet alone, it is what the table
+-- What is kept beside the table over every list of steps: from a fresh bench, and from a fresh cabinet alone, it is what the table
 -- says after every step, and every answer and the state after it are those of the full look, which asks every train of the table
 -- (specs/Full of cabinet and bench). Refused steps are among them, and the settings are any. Assumes nothing.
 use Rattle.std.specs.Prelude.{ℕ, ◌≡◌, List, take}

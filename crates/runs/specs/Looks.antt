@@ -1,4 +1,4 @@
--- An occupy makes no look, though "after each accepted step it looks once" (document 01, "Cabinet"): the cabinet does not hear it, and a look there
+-- An occupy makes no look, though "after each accepted step it looks once": the cabinet does not hear it, and a look there
 -- would change nothing. Said of every moment of every list of bench steps, under any settings. Assumes nothing.
 use Rattle.std.specs.Prelude.{ℕ, ◌≡◌, List, ◌∷◌}
 use Rattle.settings.specs.declared.Settings.{Settings}

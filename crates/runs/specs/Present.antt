@@ -1,4 +1,4 @@
--- How many trains are present (document 02, "Six"): the number kept by accepted approaches and leaves (History) is that of the trains that are not away,
+-- How many trains are present: the number kept by accepted approaches and leaves (History) is that of the trains that are not away,
 -- each counted once, and that of the entries which the bench's table has for them, no two with one number; it is at most 96. Said of every moment of
 -- every list of bench steps, refused ones among them, under any settings. Assumes nothing.
 use Rattle.std.specs.Prelude.{ℕ, ◌≤◌, ◌≡◌, Bool, false, not, List, [], ◌∷◌, eqb, length, take}

@@ -1,4 +1,4 @@
--- The short gap between two trains is a ground of its own (document 01, "Traps in this trade"): at a moment of a list the premise of an open road is met,
+-- The short gap between two trains is a ground of its own: at a moment of a list the premise of an open road is met,
 -- the road is closed, and none of the other three grounds explains it. Assumes nothing.
 use Rattle.std.specs.Prelude.{ℕ, ◌+◌, ◌≤◌, ◌<◌, List, length}
 use Rattle.settings.specs.declared.Settings.{Settings}

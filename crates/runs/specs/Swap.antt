@@ -1,4 +1,4 @@
--- Two sensors in one tick (document 02, "One"): a card hands over the events of one instant in its own order, and it does not matter which. Said of any
+-- Two sensors in one tick: a card hands over the events of one instant in its own order, and it does not matter which. Said of any
 -- list from a fresh bench, refused steps anywhere in it: `before`, then two neighbouring steps x and y, then `rest`; and of the list with the two swapped.
 -- What is said of a list is the rules' alone (History); then the same of the bench as built, run through both lists. Assumes nothing.
 --
@@ -112,6 +112,6 @@ SwapBut except =
 abbrev pub Swap : Type 0
 Swap = SwapBut excepted
 
--- without the exception it does not hold (document 01, case j)
+-- without the exception it does not hold
 abbrev pub ExceptionNeeded : Type 0
 ExceptionNeeded = SwapBut (λ e f. false) → ⊥

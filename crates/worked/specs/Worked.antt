@@ -1,4 +1,4 @@
--- The settings K of document 01 ("Report program"), those that its bench cases get from K, and settings with four kinds of train (document 02, "Three").
+-- The settings K of the worked cases, those that the cases get from K, and settings with four kinds of train.
 -- Assumes nothing.
 use Rattle.std.specs.Prelude.{ℕ}
 use Rattle.settings.specs.declared.Times.{Times}
