@@ -1,4 +1,4 @@
--- The reports of document 01's sample run, of one cut short, of a stretch within an instant, and of stretches that touch or do not (document 02, Five).
+-- The reports of the sample record's run, of one cut short, of a stretch within an instant, and of stretches that touch or do not.
 -- Assumes nothing.
 use mathlib.Core.Path.{◌≡◌, refl}
 use Rattle.settings.specs.declared.Kind.TheVariants.{Loaded}
@@ -28,7 +28,7 @@ two = entered (Approach Loaded 1 ∷ Approach Loaded 2 ∷ [])
 abbrev three : List Step
 three = entered (Approach Loaded 1 ∷ Approach Loaded 2 ∷ Approach Loaded 3 ∷ [])
 
--- document 01's sample
+-- the sample record
 pub sample_report : run_report (one ++ (Leave 1 ∷ tick 5760 ∷ [])) ≡ report_line 2 4 78 ++ report_line 3 4 79 ++ report_line 1 3 90
 unfolding run_report lines_of rows report_line numeral figure_of later_moments only stretches_from arm_below some_inside some_train joined_from round degrees reading_of
 sample_report = refl

@@ -1,4 +1,4 @@
--- The order of a report's rows (document 01, "Report program"): first instant; N before O if equal; stretches of one kind as they happened; and
+-- The order of a report's rows: first instant; N before O if equal; stretches of one kind as they happened; and
 -- Z after them.
 -- Assumes nothing.
 use Rattle.std.specs.Prelude.{ℕ, ◌<◌, ◌≤◌, ◌≡◌, List, [], ◌∷◌, ◌++◌, length}

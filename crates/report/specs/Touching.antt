@@ -1,4 +1,4 @@
--- Touching stretches are one (document 02, Five): the report joins stretches with a train inside where one ends at the instant the next begins.
+-- Touching stretches are one: the report joins stretches with a train inside where one ends at the instant the next begins.
 -- The stretches are those that `Stretches` reads off the moments; N stretches are not joined. Assumes nothing.
 use Rattle.std.specs.Prelude.{ℕ, ◌+◌, ◌≡◌, Bool, true, false, cond, ◌&&◌, ◌||◌, List, [], ◌∷◌, ◌++◌, leb, eqb}
 use Rattle.runs.specs.declared.Step.{Step}

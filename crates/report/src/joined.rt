@@ -17,10 +17,9 @@ impl<'a> Joined<'a> {
     ghost use Rattle.report.specs.Left.{joined_left};
 
     /// These, joined.
-    pub fn new(stretches: Stretches<'a>) -> Self
-        ensures { joined_left result ≡ joined (stretches_left stretches.entry) }
+    pub fn new(mut later: Stretches<'a>) -> Self
+        ensures { joined_left result ≡ joined (stretches_left later.entry) }
     {
-        let mut later = stretches;
         let next = later.next();
         Joined { next, later }
     }

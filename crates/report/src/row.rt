@@ -24,8 +24,7 @@ impl Row {
         ensures { result ≡ stretch_of self.now }
     {
         match self {
-            Row::Lowered(stretch) => *stretch,
-            Row::Occupied(stretch) => *stretch,
+            Row::Lowered(stretch) | Row::Occupied(stretch) => *stretch,
         }
     }
 
@@ -71,10 +70,9 @@ impl<'a> Rows<'a> {
     ghost use Rattle.report.specs.Left.{rows_left};
 
     /// The rows of these stretches, the occupied ones joined, merged.
-    pub fn merge(lowered: Stretches<'a>, occupied: Stretches<'a>) -> Self
+    pub fn merge(mut lowered: Stretches<'a>, occupied: Stretches<'a>) -> Self
         ensures { rows_left result ≡ rows (stretches_left lowered.entry) (joined (stretches_left occupied.entry)) }
     {
-        let mut lowered = lowered;
         let mut joined = Joined::new(occupied);
         let next_lowered = lowered.next();
         let next_occupied = joined.next();
