@@ -1,16 +1,15 @@
-// The bench cases a to m of document 01 through the built functions, one line each; what the bench shows along its sample run, and a cabinet
-// alone; trains of four kinds; the train of a lower; 96 trains; reports of stretches that touch; a record with a five-digit train; document
-// 01's records turned into the new form and back (the longer one is read on standard input); and the new form with the report.
-// A step shows 0 (taken with no command), D with its train or U (taken, with that command) or its refusal number; `second/expected` has the
-// same lines.
+//! The bench cases a to m through the built functions, one line each; what the bench shows along the sample run, and a cabinet alone; trains of four
+//! kinds; the train of a lower; 96 trains; reports of stretches that touch; a record with a five-digit train; records of the old form turned into the
+//! new one and back (the longer one is read on standard input); and the new form with the report.
+//! A step shows 0 (taken with no command), D with its train or U (taken, with that command) or its refusal number; `second/expected` has the
+//! same lines.
 #![tactic(auto)]
 
-use arm::{Gate, Reading};
-use bench::{Bench, Moved};
-use cabinet::{Answer, Cabinet, Stepped};
-use converter::Converted;
+use arm::Gate;
+use bench::Bench;
+use cabinet::{Cabinet, Order};
 use runs::Step;
-use settings::{Kind, Settings, Times, Verdict};
+use settings::{Kind, Refusal, Settings, Times};
 use std::io::{Input, Read};
 
 // ---- what is shown
@@ -23,8 +22,8 @@ fn show<R: Print>(rt: &R, n: u64) {
     let _ = print!(rt; " {n}");
 }
 
-fn show_verdict<R: Print>(rt: &R, v: Verdict) {
-    show(rt, settings::number(v) as u64);
+fn show_check<R: Print>(rt: &R, settings: &Settings) {
+    show(rt, u64::from(settings::number(&settings.check())));
 }
 
 // A step by its refusal number, the letter of its command and the train of a lower.
@@ -39,20 +38,23 @@ fn show_step<R: Print>(rt: &R, number: u8, letter: u8, train: u32) {
     }
 }
 
-fn show_answer<R: Print>(rt: &R, a: Answer) {
+fn show_answer<R: Print>(rt: &R, answer: Result<Option<Order>, Refusal>) {
+    let order = runs::given(answer);
     show_step(
         rt,
-        runs::number_byte(a),
-        runs::order_byte(a),
-        runs::order_train(a),
+        settings::number(&answer),
+        runs::letter_byte(order),
+        runs::train_of(order),
     );
 }
 
-// What a step answered, and the bench after it.
-fn shown<R: Print>(rt: &R, m: Moved) -> Bench {
-    let answer = m.answer;
-    show_answer(rt, answer);
-    m.bench
+// What each step answered, and the bench after them.
+fn shown<R: Print>(rt: &R, mut bench: Bench, steps: &[Step]) -> Bench {
+    for step in steps {
+        let answer = step.take(&mut bench);
+        show_answer(rt, answer);
+    }
+    bench
 }
 
 // ---- settings
@@ -71,114 +73,128 @@ fn case_a<R: Print>(rt: &R) {
 // K, and K with E 2; with X 2; with Q 2880 and with Y 0.
 fn cases_b_c_d<R: Print>(rt: &R) {
     print(rt, b"b");
-    show_verdict(rt, settings::check(worked::settings_k()));
-    show_verdict(rt, settings::check(worked::settings_like(2, 5760, 3, 1)));
+    show_check(rt, &worked::settings_k());
+    show_check(rt, &worked::settings_like(2, 5760, 3, 1));
     print(rt, b"\nc");
-    show_verdict(rt, settings::check(worked::settings_like(3, 5760, 2, 1)));
+    show_check(rt, &worked::settings_like(3, 5760, 2, 1));
     print(rt, b"\nd");
-    show_verdict(rt, settings::check(worked::settings_like(3, 2880, 3, 1)));
-    show_verdict(rt, settings::check(worked::settings_like(3, 5760, 3, 0)));
+    show_check(rt, &worked::settings_like(3, 2880, 3, 1));
+    show_check(rt, &worked::settings_like(3, 5760, 3, 0));
     print(rt, b"\n");
 }
 
 // ---- benches under K
 
 fn fresh() -> Bench {
-    let m = bench::start(worked::settings_k());
-    m.bench
+    Bench::fresh(worked::settings_k())
 }
 
-// The bench after a step that is taken.
-fn after(b: Bench, x: Step) -> Bench {
-    let m = runs::take(b, x);
-    m.bench
+// The bench after steps that are taken.
+fn after(mut bench: Bench, steps: &[Step]) -> Bench {
+    for step in steps {
+        let _ = step.take(&mut bench);
+    }
+    bench
 }
 
 // From a fresh bench: train 1 approaches at 0; the command down at 1.
 fn at_1(start: Bench) -> Bench {
-    let b = after(start, Step::Approach(Kind::Loaded, 1));
-    after(b, Step::Clock(90.0))
+    after(start, &[Step::Approach(Kind::Loaded, 1), Step::Clock(90.0)])
 }
 
 fn at_2(start: Bench) -> Bench {
-    after(at_1(start), Step::Clock(45.0))
+    after(at_1(start), &[Step::Clock(45.0)])
 }
 
 fn at_3(start: Bench) -> Bench {
-    after(at_2(start), Step::Clock(0.0))
+    after(at_2(start), &[Step::Clock(0.0)])
 }
 
 // Train 1 inside at 4.
 fn inside_at_4(start: Bench) -> Bench {
-    let b = after(at_3(start), Step::Occupy(1));
-    after(b, Step::Clock(0.0))
+    after(at_3(start), &[Step::Occupy(1), Step::Clock(0.0)])
 }
 
 // Train 1 leaves at 4, under K with Q 2880 and Y 2: the command up and the arm at 0, so that 45 degrees and more may follow.
 fn left_at_4() -> Bench {
-    let m = bench::start(worked::settings_like(3, 2880, 3, 2));
-    after(inside_at_4(m.bench), Step::Leave(1))
+    let start = Bench::fresh(worked::settings_like(3, 2880, 3, 2));
+    after(inside_at_4(start), &[Step::Leave(1)])
 }
 
 // Nothing at the last instant.
 fn at_last_instant() -> Bench {
-    let mut b = fresh();
-    b.head.motion.control.now = 9999999;
-    b
+    let mut bench = fresh();
+    bench.head.motion.control.now = cabinet::LAST_INSTANT;
+    bench
 }
 
 // An occupy at 2 and at 3; the clock at 4 with the train still coming.
 fn cases_e_f<R: Print>(rt: &R) {
     print(rt, b"e");
-    let b = shown(rt, at_2(fresh()).occupy(1));
-    let coming = after(b, Step::Clock(0.0));
-    shown(rt, coming.occupy(1));
+    let bench = shown(rt, at_2(fresh()), &[Step::Occupy(1)]);
+    let coming = after(bench, &[Step::Clock(0.0)]);
+    shown(rt, coming, &[Step::Occupy(1)]);
     print(rt, b"\nf");
-    let late = after(coming, Step::Clock(0.0));
-    shown(rt, late.clock(0.0));
+    let late = after(coming, &[Step::Clock(0.0)]);
+    shown(rt, late, &[Step::Clock(0.0)]);
     print(rt, b"\n");
 }
 
 // Approaches of trains 0, 65,536 and 65,535.
 fn case_g<R: Print>(rt: &R) {
     print(rt, b"g");
-    let b = shown(rt, fresh().approach(Kind::Loaded, 0));
-    let c = shown(rt, b.approach(Kind::Loaded, 65536));
-    shown(rt, c.approach(Kind::Loaded, 65535));
+    shown(
+        rt,
+        fresh(),
+        &[
+            Step::Approach(Kind::Loaded, 0),
+            Step::Approach(Kind::Loaded, 65536),
+            Step::Approach(Kind::Loaded, 65535),
+        ],
+    );
     print(rt, b"\n");
 }
 
 // The command down at 5760: 2880, and 2881; at 0: 1.
 fn cases_h_i<R: Print>(rt: &R) {
     print(rt, b"h");
-    shown(rt, at_1(fresh()).clock(45.0));
-    shown(rt, at_1(fresh()).clock(45.015625));
+    shown(rt, at_1(fresh()), &[Step::Clock(45.0)]);
+    shown(rt, at_1(fresh()), &[Step::Clock(45.015625)]);
     print(rt, b"\ni");
-    shown(rt, at_3(fresh()).clock(0.015625));
+    shown(rt, at_3(fresh()), &[Step::Clock(0.015625)]);
     print(rt, b"\n");
 }
 
 // Train 1 inside at 4: approach of 2, leave of 1, clock; and leave of 1, approach of 2, clock.
 fn case_j<R: Print>(rt: &R) {
     print(rt, b"j");
-    let b = shown(rt, inside_at_4(fresh()).approach(Kind::Loaded, 2));
-    let c = shown(rt, b.leave(1));
-    shown(rt, c.clock(0.0));
-    let d = shown(rt, inside_at_4(fresh()).leave(1));
-    let e = shown(rt, d.approach(Kind::Loaded, 2));
-    shown(rt, e.clock(90.0));
+    shown(
+        rt,
+        inside_at_4(fresh()),
+        &[
+            Step::Approach(Kind::Loaded, 2),
+            Step::Leave(1),
+            Step::Clock(0.0),
+        ],
+    );
+    shown(
+        rt,
+        inside_at_4(fresh()),
+        &[
+            Step::Leave(1),
+            Step::Approach(Kind::Loaded, 2),
+            Step::Clock(90.0),
+        ],
+    );
     print(rt, b"\n");
 }
 
 // The angle that a clock step brings to the bench in 64ths, or its refusal number.
 fn show_reading<R: Print>(rt: &R, degrees: f32) {
-    let m = left_at_4().clock(degrees);
-    let answer = m.answer;
-    let number = runs::number_byte(answer);
-    if number == 0 {
-        show(rt, m.bench.head.motion.angle as u64);
-    } else {
-        show(rt, number as u64);
+    let mut bench = left_at_4();
+    match bench.clock(degrees) {
+        Ok(_) => show(rt, u64::from(bench.head.motion.angle)),
+        Err(refusal) => show(rt, u64::from(refusal.number())),
     }
 }
 
@@ -195,7 +211,7 @@ fn cases_k_l_m<R: Print>(rt: &R) {
     show_verdict(rt, verdict);
     show(rt, o.line as u64);
     print(rt, b"\nm");
-    shown(rt, at_last_instant().clock(90.0));
+    shown(rt, at_last_instant(), &[Step::Clock(90.0)]);
     print(rt, b"\n");
 }
 
@@ -203,18 +219,17 @@ fn cases_k_l_m<R: Print>(rt: &R) {
 
 // Degrees from 0 to 90 in 64ths, behind this sign.
 fn show_degrees<R: Print>(rt: &R, sign: &[u8], degrees: f32) {
-    let reading = arm::to_64ths(degrees);
-    match reading {
-        Reading::Angle(k) => {
+    match arm::to_64ths(degrees) {
+        Some(angle) => {
             print(rt, sign);
-            let _ = print!(rt; "{k}");
+            let _ = print!(rt; "{angle}");
         }
-        Reading::Refused => print(rt, b" none"),
+        None => print(rt, b" none"),
     }
 }
 
-fn show_pose<R: Print>(rt: &R, b: Bench) {
-    let pose = b.pose();
+fn show_pose<R: Print>(rt: &R, bench: &Bench) {
+    let pose = bench.pose();
     show_degrees(rt, b" ", pose.angle);
     if pose.change < 0.0 {
         show_degrees(rt, b" -", 0.0 - pose.change);
@@ -223,9 +238,8 @@ fn show_pose<R: Print>(rt: &R, b: Bench) {
     }
 }
 
-fn show_gate<R: Print>(rt: &R, b: Bench) {
-    let gate = b.gate();
-    match gate {
+fn show_gate<R: Print>(rt: &R, bench: &Bench) {
+    match bench.gate() {
         Gate::Up => print(rt, b" up"),
         Gate::Down => print(rt, b" down"),
         Gate::Falling(degrees) => show_degrees(rt, b" falling ", degrees),
@@ -240,88 +254,122 @@ enum Display {
     Gate,
 }
 
-fn show_bench<R: Print>(rt: &R, what: Display, b: Bench) {
+fn show_bench<R: Print>(rt: &R, what: Display, bench: &Bench) {
     match what {
-        Display::Pose => show_pose(rt, b),
-        Display::Gate => show_gate(rt, b),
+        Display::Pose => show_pose(rt, bench),
+        Display::Gate => show_gate(rt, bench),
     }
 }
 
-// The bench after a step, and what it shows.
-fn showing<R: Print>(rt: &R, what: Display, b: Bench, x: Step) -> Bench {
-    let next = after(b, x);
-    show_bench(rt, what, next);
-    next
-}
+// The sample run.
+const SAMPLE_STEPS: [Step; 8] = [
+    Step::Approach(Kind::Loaded, 1),
+    Step::Clock(90.0),
+    Step::Clock(45.0),
+    Step::Clock(0.0),
+    Step::Occupy(1),
+    Step::Clock(0.0),
+    Step::Leave(1),
+    Step::Clock(90.0),
+];
 
 // At each of the nine moments of the sample run.
 fn sample_moments<R: Print>(rt: &R, what: Display) {
-    let start = fresh();
-    show_bench(rt, what, start);
-    let b = showing(rt, what, start, Step::Approach(Kind::Loaded, 1));
-    let b = showing(rt, what, b, Step::Clock(90.0));
-    let b = showing(rt, what, b, Step::Clock(45.0));
-    let b = showing(rt, what, b, Step::Clock(0.0));
-    let b = showing(rt, what, b, Step::Occupy(1));
-    let b = showing(rt, what, b, Step::Clock(0.0));
-    let b = showing(rt, what, b, Step::Leave(1));
-    showing(rt, what, b, Step::Clock(90.0));
+    let mut bench = fresh();
+    show_bench(rt, what, &bench);
+    for step in &SAMPLE_STEPS {
+        let _ = step.take(&mut bench);
+        show_bench(rt, what, &bench);
+    }
     print(rt, b"\n");
 }
 
 // ---- the cabinet alone
 
-// What a step answered, and the cabinet after it.
-fn heard<R: Print>(rt: &R, s: Stepped) -> Cabinet {
-    let answer = s.answer;
-    show_answer(rt, answer);
-    s.cabinet
+// A step that the cabinet hears: an approach of kind 1, a leave, or the clock's.
+#[derive(Clone, Copy)]
+enum Heard {
+    Approach(u32),
+    Leave(u32),
+    Clock,
 }
 
-// The cabinet after a step, and the trains present.
-fn counted<R: Print>(rt: &R, s: Stepped) -> Cabinet {
-    let c = s.cabinet;
-    show(rt, c.trains_present() as u64);
-    c
+fn hear(cabinet: &mut Cabinet, step: Heard) -> Result<Option<Order>, Refusal> {
+    match step {
+        Heard::Approach(train) => cabinet.approach(Kind::Loaded, train),
+        Heard::Leave(train) => cabinet.leave(train),
+        Heard::Clock => cabinet.clock(),
+    }
+}
+
+// What each step answered.
+fn heard<R: Print>(rt: &R, mut cabinet: Cabinet, steps: &[Heard]) {
+    for step in steps {
+        let answer = hear(&mut cabinet, *step);
+        show_answer(rt, answer);
+    }
+}
+
+// The trains present after each step.
+fn counted<R: Print>(rt: &R, cabinet: &mut Cabinet, steps: &[Heard]) {
+    for step in steps {
+        let _ = hear(cabinet, *step);
+        show(rt, u64::from(cabinet.trains_present()));
+    }
 }
 
 // At each of the nine moments of the sample run: the cabinet does not hear the occupy.
 fn present_along_sample<R: Print>(rt: &R) {
-    let start = cabinet::start(worked::settings_k()).cabinet;
+    let mut cabinet = Cabinet::fresh(worked::settings_k());
     print(rt, b"present");
-    show(rt, start.trains_present() as u64);
-    let c = counted(rt, start.approach(Kind::Loaded, 1));
-    let c = counted(rt, c.clock());
-    let c = counted(rt, c.clock());
-    let c = counted(rt, c.clock());
-    show(rt, c.trains_present() as u64);
-    let c = counted(rt, c.clock());
-    let c = counted(rt, c.leave(1));
-    counted(rt, c.clock());
+    show(rt, u64::from(cabinet.trains_present()));
+    counted(
+        rt,
+        &mut cabinet,
+        &[Heard::Approach(1), Heard::Clock, Heard::Clock, Heard::Clock],
+    );
+    show(rt, u64::from(cabinet.trains_present()));
+    counted(
+        rt,
+        &mut cabinet,
+        &[Heard::Clock, Heard::Leave(1), Heard::Clock],
+    );
     print(rt, b"\n");
 }
 
 // What it hears of the sample run; its refusals, and a leave of a train that only came; the clock at the last instant.
 fn cabinet_alone<R: Print>(rt: &R) {
-    let fresh = cabinet::start(worked::settings_k()).cabinet;
+    let fresh = Cabinet::fresh(worked::settings_k());
     print(rt, b"cabinet");
-    let c = heard(rt, fresh.approach(Kind::Loaded, 1));
-    let c = heard(rt, c.clock());
-    let c = heard(rt, c.clock());
-    let c = heard(rt, c.clock());
-    let c = heard(rt, c.clock());
-    let c = heard(rt, c.leave(1));
-    heard(rt, c.clock());
-    let c = heard(rt, fresh.approach(Kind::Loaded, 0));
-    let c = heard(rt, c.approach(Kind::Loaded, 65536));
-    let c = heard(rt, c.approach(Kind::Loaded, 1));
-    let c = heard(rt, c.approach(Kind::Loaded, 1));
-    let c = heard(rt, c.leave(2));
-    let c = heard(rt, c.leave(1));
-    heard(rt, c.leave(1));
+    heard(
+        rt,
+        fresh,
+        &[
+            Heard::Approach(1),
+            Heard::Clock,
+            Heard::Clock,
+            Heard::Clock,
+            Heard::Clock,
+            Heard::Leave(1),
+            Heard::Clock,
+        ],
+    );
+    heard(
+        rt,
+        fresh,
+        &[
+            Heard::Approach(0),
+            Heard::Approach(65536),
+            Heard::Approach(1),
+            Heard::Approach(1),
+            Heard::Leave(2),
+            Heard::Leave(1),
+            Heard::Leave(1),
+        ],
+    );
     let mut last = fresh;
-    last.control.now = 9999999;
-    heard(rt, last.clock());
+    last.control.now = cabinet::LAST_INSTANT;
+    heard(rt, last, &[Heard::Clock]);
     print(rt, b"\n");
 }
 
@@ -329,18 +377,13 @@ fn cabinet_alone<R: Print>(rt: &R) {
 
 // Kinds with times of their own: 6 and 9, 3 and 4, 4 and 6, and of kind 4 these.
 fn mixed(earliest: u32, latest: u32) -> Settings {
-    worked::settings_mixed(Times {
-        earliest: earliest,
-        latest: latest,
-    })
+    worked::settings_mixed(Times { earliest, latest })
 }
 
-// What each of the first n steps answered.
-fn show_steps<R: Print>(rt: &R, n: usize, answers: [u8; 17], orders: [u8; 17], named: [u32; 17]) {
-    for i in 0..17 {
-        if i < n {
-            show_step(rt, answers[i], orders[i], named[i]);
-        }
+// What each of so many steps answered.
+fn show_steps<R: Print>(rt: &R, n: usize, answers: &[u8], orders: &[u8], named: &[u32]) {
+    for ((answer, order), train) in answers.iter().zip(orders).zip(named).take(n) {
+        show_step(rt, *answer, *order, *train);
     }
     print(rt, b"\n");
 }
@@ -350,8 +393,8 @@ fn show_list<R: Print>(rt: &R, letters: &[u8], numbers: &[u32], readings: &[f32]
     let mut answers = [0u8; 17];
     let mut orders = [0u8; 17];
     let mut named = [0u32; 17];
-    runs::run(
-        mixed(5, 11),
+    let _ = runs::run(
+        &mixed(5, 11),
         letters,
         numbers,
         readings,
@@ -359,7 +402,7 @@ fn show_list<R: Print>(rt: &R, letters: &[u8], numbers: &[u32], readings: &[f32]
         &mut orders,
         &mut named,
     );
-    show_steps(rt, letters.len(), answers, orders, named);
+    show_steps(rt, letters.len(), &answers, &orders, &named);
 }
 
 // Four trains, one of each kind, come together: each may go inside from its own due instant on.
@@ -403,12 +446,12 @@ fn latest_first<R: Print>(rt: &R) {
 // Refusals 1, 2 and 3 by the times of kind 4 alone.
 fn fourth_kind<R: Print>(rt: &R) {
     print(rt, b"kind4");
-    show_verdict(rt, settings::check(mixed(5, 11)));
-    show_verdict(rt, settings::check(mixed(0, 11)));
-    show_verdict(rt, settings::check(mixed(5, 4)));
-    show_verdict(rt, settings::check(mixed(5, 60001)));
-    show_verdict(rt, settings::check(mixed(2, 8)));
-    show_verdict(rt, settings::check(mixed(5, 12)));
+    show_check(rt, &mixed(5, 11));
+    show_check(rt, &mixed(0, 11));
+    show_check(rt, &mixed(5, 4));
+    show_check(rt, &mixed(5, 60001));
+    show_check(rt, &mixed(2, 8));
+    show_check(rt, &mixed(5, 12));
     print(rt, b"\n");
 }
 
@@ -418,15 +461,15 @@ fn kinds_alone<R: Print>(rt: &R) {
     let mut answers = [0u8; 17];
     let mut orders = [0u8; 17];
     let mut named = [0u32; 17];
-    alone::run(
-        mixed(5, 11),
+    let _ = alone::run(
+        &mixed(5, 11),
         b"ATBTLTT",
         &[1u32, 0, 2, 0, 2, 0, 0],
         &mut answers,
         &mut orders,
         &mut named,
     );
-    show_steps(rt, 7, answers, orders, named);
+    show_steps(rt, 7, &answers, &orders, &named);
 }
 
 // ---- the train of a lower
@@ -467,78 +510,81 @@ fn named_of_two<R: Print>(rt: &R) {
 // 65,535 down to 65,440.
 fn numbers() -> [u32; 96] {
     let mut numbers = [0u32; 96];
-    for i in 0..96 {
-        numbers[i] = 65535 - (i as u32);
+    for (number, train) in numbers.iter_mut().zip((65440..=65535).rev()) {
+        *number = train;
     }
     numbers
 }
 
 // These trains approach at 0.
 fn crowd() -> Bench {
-    let r = runs::run(
-        worked::settings_k(),
-        &[b'A'; 96],
-        &numbers(),
-        &[0.0f32; 96],
-        &mut [0u8; 96],
-        &mut [0u8; 96],
-        &mut [0u32; 96],
-    );
-    r.bench
+    let mut bench = fresh();
+    for train in numbers() {
+        let _ = bench.approach(Kind::Loaded, train);
+    }
+    bench
 }
 
 // One more, a present one again, and no train's number; then the arm falls, one goes inside and leaves, and its entry serves a new number.
 fn full<R: Print>(rt: &R) {
-    let b = crowd();
+    let bench = crowd();
     print(rt, b"full");
-    show(rt, b.table.present() as u64);
-    let b = shown(rt, b.approach(Kind::Loaded, 7));
-    let b = shown(rt, b.approach(Kind::Loaded, 65500));
-    let b = shown(rt, b.approach(Kind::Loaded, 0));
-    let b = shown(rt, b.approach(Kind::Loaded, 65536));
-    let b = shown(rt, b.clock(90.0));
-    let b = shown(rt, b.clock(45.0));
-    let b = shown(rt, b.clock(0.0));
-    let b = shown(rt, b.occupy(65500));
-    let b = shown(rt, b.approach(Kind::Loaded, 65500));
-    let b = shown(rt, b.approach(Kind::Loaded, 7));
-    let b = shown(rt, b.leave(65500));
-    let b = shown(rt, b.approach(Kind::Loaded, 7));
-    let b = shown(rt, b.approach(Kind::Loaded, 8));
-    let b = shown(rt, b.approach(Kind::Loaded, 7));
-    shown(rt, b.approach(Kind::Loaded, 65500));
+    show(rt, u64::from(bench.table.present()));
+    shown(
+        rt,
+        bench,
+        &[
+            Step::Approach(Kind::Loaded, 7),
+            Step::Approach(Kind::Loaded, 65500),
+            Step::Approach(Kind::Loaded, 0),
+            Step::Approach(Kind::Loaded, 65536),
+            Step::Clock(90.0),
+            Step::Clock(45.0),
+            Step::Clock(0.0),
+            Step::Occupy(65500),
+            Step::Approach(Kind::Loaded, 65500),
+            Step::Approach(Kind::Loaded, 7),
+            Step::Leave(65500),
+            Step::Approach(Kind::Loaded, 7),
+            Step::Approach(Kind::Loaded, 8),
+            Step::Approach(Kind::Loaded, 7),
+            Step::Approach(Kind::Loaded, 65500),
+        ],
+    );
     print(rt, b"\n");
 }
 
 // A cabinet alone that hears the same 96.
 fn crowd_alone() -> Cabinet {
-    let r = alone::run(
-        worked::settings_k(),
-        &[b'A'; 96],
-        &numbers(),
-        &mut [0u8; 96],
-        &mut [0u8; 96],
-        &mut [0u32; 96],
-    );
-    r.cabinet
+    let mut cabinet = Cabinet::fresh(worked::settings_k());
+    for train in numbers() {
+        let _ = cabinet.approach(Kind::Loaded, train);
+    }
+    cabinet
 }
 
 fn full_alone<R: Print>(rt: &R) {
-    let c = crowd_alone();
+    let cabinet = crowd_alone();
     print(rt, b"fullalone");
-    show(rt, c.trains_present() as u64);
-    let c = heard(rt, c.approach(Kind::Loaded, 7));
-    let c = heard(rt, c.approach(Kind::Loaded, 65500));
-    let c = heard(rt, c.approach(Kind::Loaded, 0));
-    let c = heard(rt, c.approach(Kind::Loaded, 65536));
-    let c = heard(rt, c.leave(65500));
-    let c = heard(rt, c.leave(65500));
-    let c = heard(rt, c.approach(Kind::Loaded, 7));
-    let c = heard(rt, c.approach(Kind::Loaded, 8));
-    let c = heard(rt, c.approach(Kind::Loaded, 7));
-    let c = heard(rt, c.clock());
-    let c = heard(rt, c.leave(7));
-    heard(rt, c.approach(Kind::Loaded, 65500));
+    show(rt, u64::from(cabinet.trains_present()));
+    heard(
+        rt,
+        cabinet,
+        &[
+            Heard::Approach(7),
+            Heard::Approach(65500),
+            Heard::Approach(0),
+            Heard::Approach(65536),
+            Heard::Leave(65500),
+            Heard::Leave(65500),
+            Heard::Approach(7),
+            Heard::Approach(8),
+            Heard::Approach(7),
+            Heard::Clock,
+            Heard::Leave(7),
+            Heard::Approach(65500),
+        ],
+    );
     print(rt, b"\n");
 }
 
@@ -556,8 +602,8 @@ fn show_report<R: Print>(
     let mut answers = [0u8; 16];
     let mut orders = [0u8; 16];
     let mut named = [0u32; 16];
-    recording::record_run(
-        worked::settings_k(),
+    let _ = recording::record_run(
+        &worked::settings_k(),
         letters,
         numbers,
         readings,
@@ -658,8 +704,8 @@ fn sample_record(train: u32) -> [u8; 400] {
     let mut orders = [0u8; 8];
     let mut named = [0u32; 8];
     let mut text = [0u8; 400];
-    recording::record_run(
-        worked::settings_k(),
+    let _ = recording::record_run(
+        &worked::settings_k(),
         b"ATTTOTLT",
         &[train, 0, 0, 0, train, 0, train, 0],
         &[0.0f32, 90.0, 45.0, 0.0, 0.0, 0.0, 0.0, 90.0],
@@ -686,7 +732,7 @@ fn sample<R: Print>(rt: &R) {
     print(rt, &lines);
 }
 
-// ---- document 01's sample record, in both forms
+// ---- the sample record of the old form, in both forms
 
 // As it stands there: 19 lines of 15 bytes.
 const OLD_SAMPLE: [u8; 285] = *b"   GATE RECORD
@@ -735,7 +781,7 @@ fn show_converted<R: Print>(rt: &R, c: Converted) {
     show(rt, c.line as u64);
 }
 
-// A text in document 01's form, with space for the sample in the new one.
+// A text in the old form, with space for the sample in the new one.
 fn show_to_new<R: Print>(rt: &R, text: &[u8]) {
     show_converted(rt, converter::to_new(text, &mut [0u8; 400]));
 }
@@ -762,7 +808,7 @@ fn old_texts<R: Print>(rt: &R) {
     print(rt, b"\n");
 }
 
-// A text in the new form, with space for the sample in document 01's.
+// A text in the new form, with space for the sample in the old one.
 fn show_to_old<R: Print>(rt: &R, text: &[u8]) {
     show_converted(rt, converter::to_old(text, &mut [0u8; 285]));
 }
@@ -773,7 +819,7 @@ fn show_new_with<R: Print>(rt: &R, mut text: [u8; 400], at: usize, n: u32, lette
     show_to_old(rt, &text);
 }
 
-// The new form; of train 97; with setting 10 as 4, setting 13 as 3, and on line 15 the letter of kind 2; document 01's form; of train 97, with
+// The new form; of train 97; with setting 10 as 4, setting 13 as 3, and on line 15 the letter of kind 2; the old form; of train 97, with
 // the angle 2881 on line 18, and with setting 13 as 3; the new form with a byte of space too few.
 fn new_texts<R: Print>(rt: &R) {
     let text = new_sample();
@@ -791,7 +837,7 @@ fn new_texts<R: Print>(rt: &R) {
     print(rt, b"\n");
 }
 
-// Document 01's longer example, which is standard input, forward and back: the bytes each way, and whether every byte is back.
+// The longer example of the old form, which is standard input, forward and back: the bytes each way, and whether every byte is back.
 fn quarry<R: Input + Print>(rt: &R) {
     let mut text = [0u8; 5760];
     let mut new = [0u8; 6240];
