@@ -1,37 +1,30 @@
-// The sample record of document 01 in 15 columns, written by the recorder, printed and read back, and texts damaged from it with the reader's verdicts.
+//! The sample record in 15 columns, written by the recorder, printed and read back, and texts damaged from it with the reader's verdicts.
 #![tactic(auto)]
 
-use recorder::Recorded;
+use recorder::Recorder;
 use runs::Step;
-use settings::{Kind, Verdict};
+use settings::Kind;
 
-// A step of the recorder, and the recorder after it.
-fn after(r: Recorded, x: Step, out: &mut [u8]) -> Recorded {
-    let recorder = r.recorder;
-    recorder.take(x, out)
-}
-
-// The sample up to its command down.
-fn lowered(out: &mut [u8]) -> Recorded {
-    let r0 = recorder::start(worked::settings_k(), out);
-    let r1 = after(r0, Step::Approach(Kind::Loaded, 1), out);
-    after(r1, Step::Clock(90.0), out)
-}
-
-// The sample up to its occupy.
-fn occupied(out: &mut [u8]) -> Recorded {
-    let r2 = lowered(out);
-    let r3 = after(r2, Step::Clock(45.0), out);
-    let r4 = after(r3, Step::Clock(0.0), out);
-    after(r4, Step::Occupy(1), out)
-}
+// The sample run: train 1 comes, goes inside at 3, and leaves at 4.
+const STEPS: [Step; 8] = [
+    Step::Approach(Kind::Loaded, 1),
+    Step::Clock(90.0),
+    Step::Clock(45.0),
+    Step::Clock(0.0),
+    Step::Occupy(1),
+    Step::Clock(0.0),
+    Step::Leave(1),
+    Step::Clock(90.0),
+];
 
 // The sample, whole.
 fn write_sample(out: &mut [u8]) {
-    let r5 = occupied(out);
-    let r6 = after(r5, Step::Clock(0.0), out);
-    let r7 = after(r6, Step::Leave(1), out);
-    after(r7, Step::Clock(90.0), out);
+    let Ok(mut recorder) = Recorder::start(&worked::settings_k(), out) else {
+        return;
+    };
+    for step in &STEPS {
+        let _ = recorder.take(*step, out);
+    }
 }
 
 // A text on standard output.
@@ -59,21 +52,13 @@ fn show<R: Print>(rt: &R, name: &[u8], text: &[u8]) {
     }
 }
 
-// Where a line's column stands in a text, both counted from 1.
+// Where a line's column stands in a text, both counted from 1; the beginning for a line or a column that it has not.
 fn place(line: usize, column: usize) -> usize {
-    if line < 1 {
-        return 0;
+    if (1..=26).contains(&line) && (1..=16).contains(&column) {
+        16 * (line - 1) + (column - 1)
+    } else {
+        0
     }
-    if 26 < line {
-        return 0;
-    }
-    if column < 1 {
-        return 0;
-    }
-    if 16 < column {
-        return 0;
-    }
-    16 * (line - 1) + (column - 1)
 }
 
 // The sample with other bytes from a line's column on.
