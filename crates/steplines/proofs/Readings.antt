@@ -7,7 +7,7 @@ use mathlib.Core.Path.{◌≡◌, refl, sym, ap, ◌∙◌}
 use mathlib.Core.Bool.{Bool, true, false, cond, ◌&&◌, and-true, and-false}
 use mathlib.Core.List.{List, [], ◌∷◌, ◌++◌}
 use borrow.Table.Steps.{cases}
-use borrow.Author.Tests.{eqb-true, eqb-false, leb-true, leb-false, eq-eqb, ne_eqb, lt-leb}
+use borrow.Author.Tests.{eqb-true, eqb-false, leb-false, eq-eqb, ne_eqb, lt-leb}
 use lib.Dec.{eqb, leb}
 use lib.ListN.{length, get_or, drop}
 use Rattle.settings.proofs.Laws.{both, within_says}
@@ -39,7 +39,7 @@ value_add v (b ∷ l) =
     ∙ rw (pow-suc 10 (length l)) (ap (λ (n : ℕ). v * (10 ^ length l * 10) + n) (sym (value_cons b l ∙ value_add (b - 48) l)))
 
 value_below : (l : List ℕ) → all_digits l ≡ true → value l < 10 ^ length l
-unfolding all_digits value_from
+unfolding value_from
 value_below [] h = omega arith
 value_below (b ∷ l) h =
     let d = within_says 48 57 b (both (is_digit b) (all_digits l) h).0 in
@@ -77,7 +77,7 @@ spread (suc n) v (b ∷ l) =
 
 -- the later ones are less than one of the decimals before them
 later_below : (n : ℕ) (l : List ℕ) → all_digits l ≡ true → value (drop n l) * 10 ^ n < 10 ^ length l
-unfolding all_digits value_from
+unfolding value_from
 later_below zero l h = omega (arith, value_below l h)
 later_below (suc n) [] h = omega arith
 later_below (suc n) (b ∷ l) h =
@@ -125,11 +125,6 @@ module _ (d p x s : ℕ) (spreads : d * 1000000 ≡ x * p + s) (less : s < p) wh
       (λ f. rw (e, f) (eq-eqb (64 * d % p) 0 (omega (arith, remainder, eqb-true s 0 e, left_none (eqb-true (x % 15625) 0 f)))))
       (λ f. rw (e, f) (ne_eqb (64 * d % p) 0 (λ z. omega (arith, z, remainder, left_some (eqb-false (x % 15625) 0 f))))))
       (λ e. rw e (ne_eqb (64 * d % p) 0 (λ z. omega (arith, z, remainder, eqb-false s 0 e))))
-
--- an angle that is taken is small
-pub six_small : (minus a : Bool) (q : ℕ) → (a && leb q (most_with minus)) ≡ true → q ≤ 5760
-six_small true a q t = omega (arith, leb-true q 0 (both a (leb q 0) t).1)
-six_small false a q t = leb-true q 5760 (both a (leb q 5760) t).1
 
 -- with a minus only 0 is taken, which a whole number of 64ths is only if d is
 none_given : (d p : ℕ) → d ≡ 0 → 64 * d / p ≡ 0
@@ -198,3 +193,18 @@ reading_six minus whole decimals h =
     (angle_by minus (value (whole ++ decimals)) (length decimals) (r * 1000000) (with_decimals w decimals 6)
     (rw (value_append 0 whole decimals) (spread 6 w decimals)) (later_below 6 decimals h)
     ∙ rw (cut_left r) (cut_whole minus (smaller r largest) w decimals))
+
+-- what is no angle, as it is tested
+module _ (minus : Bool) (whole decimals : List ℕ) (h : all_digits decimals ≡ true) (s x : ℕ) (es : s ≡ number_of (drop 6 decimals))
+    (ex : x ≡ with_decimals (number_of whole) decimals 6) where
+  by_tests : by_six minus s x ≡ angle_in minus whole decimals
+  by_tests = rw (es, ex) (reading_six minus whole decimals h)
+
+  pub angle_beyond : (s ≡ 0 → ⊥) → Refused ≡ angle_in minus whole decimals
+  angle_beyond n = sym (rw (ne_eqb s 0 n) refl) ∙ by_tests
+
+  pub angle_uneven : eqb (x % 15625) 0 ≡ false → Refused ≡ angle_in minus whole decimals
+  angle_uneven e = sym (rw (e, and-false) refl) ∙ by_tests
+
+  pub angle_above : most_with minus < x / 15625 → Refused ≡ angle_in minus whole decimals
+  angle_above g = sym (rw (lt-leb (x / 15625) (most_with minus) g, and-false) refl) ∙ by_tests

@@ -1,6 +1,7 @@
 -- The numbers of a line: a whole number, and the arm's reading in decimal degrees. Neither has a limit of digits.
 -- Assumes nothing.
-use Rattle.std.specs.Prelude.{ℕ, ◌+◌, ◌-◌, ◌*◌, ◌/◌, ◌%◌, ◌^◌, Bool, true, false, cond, not, ◌&&◌, ◌||◌, List, [], ◌∷◌, ◌++◌, eqb, leb, Float, length, drop}
+use Rattle.std.specs.Prelude.{ℕ, ◌+◌, ◌-◌, ◌*◌, ◌/◌, ◌%◌, ◌^◌, Bool, false, cond, not, ◌&&◌, ◌||◌, List, [], ◌∷◌, ◌++◌, eqb, leb, Float, length, drop}
+use Rattle.std.specs.List.{list_all}
 use Rattle.settings.specs.Settings.{within}
 use Rattle.arm.specs.declared.Reading.{Reading}
 use Rattle.arm.specs.declared.Reading.TheVariants.{Angle, Refused}
@@ -13,9 +14,8 @@ use Rattle.steplines.specs.Fields.{begins}
 abbrev pub is_digit : ℕ → Bool
 is_digit b = within 48 57 b
 
-unfoldable pub all_digits : List ℕ → Bool
-all_digits [] = true
-all_digits (b ∷ bs) = is_digit b && all_digits bs
+abbrev pub all_digits : List ℕ → Bool
+all_digits bytes = list_all is_digit bytes
 
 -- one or more digits and nothing else
 abbrev pub is_number : List ℕ → Bool
