@@ -96,7 +96,7 @@ exchanged : (x a b : Bool) → (x && (a && b)) ≡ (a && (x && b))
 exchanged true a b = refl
 exchanged false a b = rw and-false
 
-word_by : (want field : List ℕ) → pointwise eqb field want ≡ is_word want field
+pub word_by : (want field : List ℕ) → pointwise eqb field want ≡ is_word want field
 unfolding starts
 word_by [] [] = refl
 word_by [] (b ∷ field) = rw (ne_eqb (suc (length field)) 0 (λ z. omega arith))
