@@ -66,7 +66,7 @@ fn start_with(count: usize, settings: Settings) -> Option<Settings>
     ensures { started result ≡ start_with count settings }
 {
     match count {
-        13 => Some(settings),
+        VALUES => Some(settings),
         7 => Some(settings::kinds_alike(settings)),
         _ => None,
     }
