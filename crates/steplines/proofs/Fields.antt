@@ -1,9 +1,10 @@
 -- Laws of fields. Assumes nothing.
-use Rattle.std.proofs.Common.{◌≡◌, ℕ, suc, ◌-◌, ◌≤◌, ◌<◌, Bool, true, false, cond, not, List, [], ◌∷◌, ◌++◌, Some, None, length, take, drop, refl, ◌∙◌, arith, append_assoc}
+use Rattle.std.proofs.Common.{◌≡◌, ℕ, suc, ◌-◌, ◌<◌, Bool, true, false, cond, not, List, [], ◌∷◌, ◌++◌, Some, None, length, take, drop, refl, ◌∙◌, arith, append_assoc}
 use Rattle.std.proofs.Math.Numerals.{one-add}
 use Rattle.std.specs.Prelude.{position, unwrap_or, eqb, ltb, ◌&&◌}
 use Rattle.std.specs.List.{position_or_len}
 use Rattle.std.proofs.lemmas.List.{take_rest}
+use Rattle.std.proofs.lemmas.List.Sums.{prefix_len-le-length}
 use Rattle.std.specs.Cmp.Lexicographic.{pointwise}
 use mathlib.Core.List.{append-nil}
 use mathlib.Core.Bool.{and-false}
@@ -14,19 +15,15 @@ use Rattle.steplines.specs.Fields.{is_blank, closed, fields_from, fields, is_wor
 
 -- ---- the first place at which p passes
 
-some_place : (b : Bool) (n i : ℕ) → cond b (Some n) None ≡ Some i → (b ≡ true) × (n ≡ i)
+pub some_place : (b : Bool) (n i : ℕ) → cond b (Some n) None ≡ Some i → (b ≡ true) × (n ≡ i)
 some_place true n i e = (refl, cc)
 some_place false n i e = absurd (cc)
 
-no_place : (b : Bool) (n : ℕ) → cond b (Some n) None ≡ None → b ≡ false
+pub no_place : (b : Bool) (n : ℕ) → cond b (Some n) None ≡ None → b ≡ false
 no_place true n e = absurd (cc)
 no_place false n e = refl
 
 module _ (p : ℕ → Bool) where
-  pub places_most : (l : List ℕ) → position_or_len p l ≤ length l
-  places_most [] = omega arith
-  places_most (b ∷ l) = let more = places_most l in cases (p b) (λ e. rw e (omega arith)) (λ e. rw e (omega arith))
-
   module _ (l : List ℕ) where
     pub position_at : (i : ℕ) → position p l ≡ Some i → (i < length l) × (position_or_len p l ≡ i)
     position_at i e =
@@ -36,13 +33,13 @@ module _ (p : ℕ → Bool) where
     pub position_none : position p l ≡ None → position_or_len p l ≡ length l
     position_none e =
         let n = no_place (ltb (position_or_len p l) (length l)) (position_or_len p l) e in
-        omega (arith, places_most l, ltb-false (position_or_len p l) (length l) n)
+        omega (arith, prefix_len-le-length (λ x. not (p x)) l, ltb-false (position_or_len p l) (length l) n)
 
     pub position_or : unwrap_or (position p l) (length l) ≡ position_or_len p l
     position_or =
         cases (ltb (position_or_len p l) (length l))
         (λ e. rw e)
-        (λ e. rw e (omega (arith, places_most l, ltb-false (position_or_len p l) (length l) e)))
+        (λ e. rw e (omega (arith, prefix_len-le-length (λ x. not (p x)) l, ltb-false (position_or_len p l) (length l) e)))
 
 -- ---- fields
 

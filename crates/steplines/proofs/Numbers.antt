@@ -3,19 +3,18 @@ use Prim.Native.Nat.{ℕ, suc, ◌+◌, ◌-◌, ◌*◌, ◌≤◌, ◌<◌}
 use native.Mathlib.Numerals.{add-one, one-add}
 use native.Mathlib.Omega.{arith}
 use mathlib.Core.Path.{◌≡◌, refl, sym, ap, ◌∙◌}
-use mathlib.Core.Bool.{Bool, true, false, cond, ◌&&◌}
-use mathlib.Core.List.{List, [], ◌∷◌, ◌++◌}
+use mathlib.Core.Bool.{Bool, true, false, ◌&&◌}
+use mathlib.Core.List.{List, [], ◌∷◌}
 use borrow.Table.Steps.{cases}
-use borrow.Author.Tests.{leb-true, leb-false, le-leb, lt-leb, ltb-true, ltb-false}
-use lib.Dec.{eqb, leb, ltb}
+use lib.Dec.{eqb}
 use lib.ListN.{length, take, drop, drop_of_length-le, length-drop}
 use lib.Seq.{take_all}
 use Rattle.std.specs.Prelude.{min, fold, position, Some, None}
 use Rattle.std.specs.List.{position_or_len}
 use Rattle.std.proofs.lemmas.List.Folds.{list_all-append}
-use Rattle.steplines.proofs.Fields.{position_at, position_none}
+use Rattle.steplines.proofs.Fields.{some_place, no_place, position_at, position_none}
 use Rattle.steplines.specs.Walk.{with_digit, number_in}
-use Rattle.steplines.specs.Numbers.{is_digit, all_digits, is_number, value_from, smaller, largest, number_of, whole_of, decimals_of, is_reading}
+use Rattle.steplines.specs.Numbers.{is_digit, all_digits, is_number, value_from, largest, number_of, whole_of, decimals_of, is_reading}
 
 -- ---- digits
 
@@ -28,88 +27,44 @@ number_none [] h = refl
 number_none (b ∷ l) h = absurd (omega arith)
 
 -- a number, as the code finds it
-find : (b : Bool) (m n : ℕ) → Some n ≡ cond b (Some m) None → (b ≡ true) × (n ≡ m)
-find true m n e = (refl, cc)
-find false m n e = absurd (cc)
-
-find_not : (b : Bool) (m : ℕ) → None ≡ cond b (Some m) None → b ≡ false
-find_not true m e = absurd (cc)
-find_not false m e = refl
-
 pub number_found : (field : List ℕ) (n : ℕ) → Some n ≡ number_in field → (is_number field ≡ true) × (n ≡ number_of field)
-number_found field n e = find (is_number field) (number_of field) n e
+number_found field n e = let s = some_place (is_number field) (number_of field) n (sym e) in (s.0, sym s.1)
 
 pub number_not : (field : List ℕ) → None ≡ number_in field → is_number field ≡ false
-number_not field e = find_not (is_number field) (number_of field) e
+number_not field e = no_place (is_number field) (number_of field) (sym e)
 
 -- two runs of bytes are a number together
-module _ (a b : List ℕ) where
-  pub reading_none : length a ≡ 0 → length b ≡ 0 → is_reading a b ≡ false
-  reading_none e f = nothing a b e f
-    where
-      nothing : (a b : List ℕ) → length a ≡ 0 → length b ≡ 0 → is_reading a b ≡ false
-      nothing [] [] e f = refl
-      nothing [] (y ∷ b) e f = absurd (omega arith)
-      nothing (x ∷ a) b e f = absurd (omega arith)
+pub reading_none : (a b : List ℕ) → length a ≡ 0 → length b ≡ 0 → is_reading a b ≡ false
+reading_none [] [] e f = refl
+reading_none [] (y ∷ b) e f = absurd (omega arith)
+reading_none (x ∷ a) b e f = absurd (omega arith)
 
-  digits_append : all_digits (a ++ b) ≡ (all_digits a && all_digits b)
-  digits_append = list_all-append is_digit a b
-
-  some_digits : 0 < length a + length b → is_reading a b ≡ all_digits (a ++ b)
-  some_digits h = some a b h
-    where
-      some : (a b : List ℕ) → 0 < length a + length b → is_reading a b ≡ all_digits (a ++ b)
-      some [] [] h = absurd (omega arith)
-      some [] (y ∷ b) h = refl
-      some (x ∷ a) b h = refl
-
-  pub reading_not : (all_digits a && all_digits b) ≡ false → is_reading a b ≡ false
-  reading_not e =
-      cases (ltb 0 (length a + length b))
-      (λ t. some_digits (ltb-true 0 (length a + length b) t) ∙ digits_append ∙ e)
-      (λ t. let n = ltb-false 0 (length a + length b) t in reading_none (omega arith) (omega arith))
-
-  pub reading_all : 0 < length a + length b → (all_digits a && all_digits b) ≡ true → is_reading a b ≡ true
-  reading_all h e = some_digits h ∙ digits_append ∙ e
+pub reading_some : (a b : List ℕ) → 0 < length a + length b → is_reading a b ≡ (all_digits a && all_digits b)
+reading_some [] [] h = absurd (omega arith)
+reading_some [] (y ∷ b) h = refl
+reading_some (x ∷ a) b h = list_all-append is_digit (x ∷ a) b
 
 -- ---- a value that goes no higher than the largest
 
-pub smaller_is : (a b : ℕ) → a ≤ b → smaller a b ≡ a
-smaller_is a b h = rw (le-leb a b h)
-
-pub smaller_not : (a b : ℕ) → b < a → smaller a b ≡ b
-smaller_not a b h = rw (lt-leb a b h)
-
-pub smaller_most : (a b : ℕ) → smaller a b ≤ b
-smaller_most a b = cases (leb a b) (λ e. rw e (leb-true a b e)) (λ e. rw e (omega arith))
-
 -- a digit more, of a value that is cut already
-cut_digit : (v g : ℕ) → smaller (v * 10 + g) largest ≡ smaller (smaller v largest * 10 + g) largest
-cut_digit v g =
-    cases (leb v largest)
-    (λ e. rw e)
-    (λ e. rw e (smaller_not (v * 10 + g) largest (omega (arith, leb-false v largest e)) ∙ sym (smaller_not (largest * 10 + g) largest (omega arith))))
+cut_digit : (v g : ℕ) → min (v * 10 + g) largest ≡ min (min v largest * 10 + g) largest
+cut_digit v g = omega arith
 
-cut_from : (v : ℕ) (bs : List ℕ) → smaller (value_from v bs) largest ≡ smaller (value_from (smaller v largest) bs) largest
+cut_from : (v : ℕ) (bs : List ℕ) → min (value_from v bs) largest ≡ min (value_from (min v largest) bs) largest
 unfolding value_from
-cut_from v [] = sym (smaller_is (smaller v largest) largest (smaller_most v largest))
+cut_from v [] = omega arith
 cut_from v (b ∷ bs) =
     cut_from (v * 10 + (b - 48)) bs
-    ∙ ap (λ (n : ℕ). smaller (value_from n bs) largest) (cut_digit v (b - 48))
-    ∙ sym (cut_from (smaller v largest * 10 + (b - 48)) bs)
+    ∙ ap (λ (n : ℕ). min (value_from n bs) largest) (cut_digit v (b - 48))
+    ∙ sym (cut_from (min v largest * 10 + (b - 48)) bs)
 
-folds_from : (n : ℕ) (l : List ℕ) → n ≤ largest → fold with_digit n l ≡ smaller (value_from n l) largest
+folds_from : (n : ℕ) (l : List ℕ) → n ≤ largest → fold with_digit n l ≡ min (value_from n l) largest
 unfolding value_from
-folds_from n [] h = sym (smaller_is n largest h)
-folds_from n (b ∷ l) h =
-    folds_from (with_digit n b) l (smaller_most (n * 10 + (b - 48)) largest)
-    ∙ sym (cut_from (n * 10 + (b - 48)) l)
+folds_from n [] h = omega arith
+folds_from n (b ∷ l) h = folds_from (with_digit n b) l (omega arith) ∙ sym (cut_from (n * 10 + (b - 48)) l)
 
 pub number_folds : (l : List ℕ) → fold with_digit 0 l ≡ number_of l
 number_folds l = folds_from 0 l (omega arith)
-
-pub smaller_min : (a b : ℕ) → min a b ≡ smaller a b
-smaller_min a b = cases (leb a b) (λ e. rw e (omega (arith, leb-true a b e))) (λ e. rw e (omega (arith, leb-false a b e)))
 
 -- ---- the point
 

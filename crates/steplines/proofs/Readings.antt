@@ -7,12 +7,13 @@ use mathlib.Core.Path.{◌≡◌, refl, sym, ap, ◌∙◌}
 use mathlib.Core.Bool.{Bool, true, false, cond, ◌&&◌, and-true, and-false}
 use mathlib.Core.List.{List, [], ◌∷◌, ◌++◌}
 use borrow.Table.Steps.{cases}
-use borrow.Author.Tests.{eqb-true, eqb-false, leb-false, eq-eqb, ne_eqb, lt-leb}
+use borrow.Author.Tests.{leb-true, eqb-true, eqb-false, leb-false, eq-eqb, ne_eqb, lt-leb}
 use lib.Dec.{eqb, leb}
+use Rattle.std.specs.Prelude.{min}
 use lib.ListN.{length, get_or, drop}
 use Rattle.settings.proofs.Laws.{both, within_says}
 use Rattle.arm.specs.declared.Reading.TheVariants.{Angle, Refused}
-use Rattle.steplines.specs.Numbers.{is_digit, all_digits, value_from, value, smaller, largest, number_of, angle_of, angle_in}
+use Rattle.steplines.specs.Numbers.{is_digit, all_digits, value_from, value, largest, number_of, angle_of, angle_in}
 use Rattle.steplines.specs.Walk.{with_decimals, most_with, by_six}
 
 -- ---- the value of digits
@@ -168,20 +169,22 @@ six_above : (minus : Bool) (s x : ℕ) → 1000000000 ≤ x → by_six minus s x
 six_above false s x h = rw (lt-leb (x / 15625) 5760 (omega arith), and-false)
 six_above true s x h = rw (lt-leb (x / 15625) 0 (omega arith), and-false)
 
-cut_whole : (minus : Bool) (s w : ℕ) (l : List ℕ) → by_six minus s (with_decimals w l 6) ≡ by_six minus s (with_decimals (smaller w largest) l 6)
+cut_whole : (minus : Bool) (s w : ℕ) (l : List ℕ) → by_six minus s (with_decimals w l 6) ≡ by_six minus s (with_decimals (min w largest) l 6)
 cut_whole minus s w l =
     cases (leb w largest)
-    (λ e. rw e)
     (λ e.
-    rw e
-    (six_above minus s (with_decimals w l 6) (omega (arith, decimals_least w l, leb-false w largest e))
-    ∙ sym (six_above minus s (with_decimals largest l 6) (omega (arith, decimals_least largest l)))))
+    let same : w ≡ min w largest = omega (arith, leb-true w largest e) in
+    ap (λ (n : ℕ). by_six minus s (with_decimals n l 6)) same)
+    (λ e.
+    let large = leb-false w largest e in
+    six_above minus s (with_decimals w l 6) (omega (arith, decimals_least w l))
+    ∙ sym (six_above minus s (with_decimals (min w largest) l 6) (omega (arith, decimals_least (min w largest) l))))
 
-cut_left : (n : ℕ) → eqb (n * 1000000) 0 ≡ eqb (smaller n largest) 0
-cut_left zero = refl
-cut_left (suc n) =
-    ne_eqb (suc n * 1000000) 0 (λ z. omega arith)
-    ∙ sym (cases (leb (suc n) largest) (λ e. rw e (ne_eqb (suc n) 0 (λ z. omega arith))) (λ e. rw e))
+cut_left : (n : ℕ) → eqb (n * 1000000) 0 ≡ eqb (min n largest) 0
+cut_left n =
+    cases (eqb (min n largest) 0)
+    (λ e. rw e (eq-eqb (n * 1000000) 0 (omega (arith, eqb-true (min n largest) 0 e))))
+    (λ e. rw e (ne_eqb (n * 1000000) 0 (λ z. omega (arith, z, eqb-false (min n largest) 0 e))))
 
 -- the reading by six decimals
 pub reading_six : (minus : Bool) (whole decimals : List ℕ) → all_digits decimals ≡ true
@@ -192,7 +195,7 @@ reading_six minus whole decimals h =
     sym
     (angle_by minus (value (whole ++ decimals)) (length decimals) (r * 1000000) (with_decimals w decimals 6)
     (rw (value_append 0 whole decimals) (spread 6 w decimals)) (later_below 6 decimals h)
-    ∙ rw (cut_left r) (cut_whole minus (smaller r largest) w decimals))
+    ∙ rw (cut_left r) (cut_whole minus (min r largest) w decimals))
 
 -- what is no angle, as it is tested
 module _ (minus : Bool) (whole decimals : List ℕ) (h : all_digits decimals ≡ true) (s x : ℕ) (es : s ≡ number_of (drop 6 decimals))

@@ -1,6 +1,6 @@
 -- The numbers of a line: a whole number, and the arm's reading in decimal degrees. Neither has a limit of digits.
 -- Assumes nothing.
-use Rattle.std.specs.Prelude.{ℕ, ◌+◌, ◌-◌, ◌*◌, ◌/◌, ◌%◌, ◌^◌, Bool, false, cond, not, ◌&&◌, ◌||◌, List, [], ◌∷◌, ◌++◌, eqb, leb, Float, length, drop}
+use Rattle.std.specs.Prelude.{ℕ, min, ◌+◌, ◌-◌, ◌*◌, ◌/◌, ◌%◌, ◌^◌, Bool, false, cond, not, ◌&&◌, ◌||◌, List, [], ◌∷◌, ◌++◌, eqb, leb, Float, length, drop}
 use Rattle.std.specs.List.{list_all}
 use Rattle.settings.specs.Settings.{within}
 use Rattle.arm.specs.declared.Reading.{Reading}
@@ -32,15 +32,12 @@ value digits = value_from 0 digits
 
 -- ---- a whole number: a train number or a setting
 
-abbrev pub smaller : ℕ → ℕ → ℕ
-smaller a b = cond (leb a b) a b
-
 -- every number above it counts as it: no train number and no setting may be that large
 abbrev pub largest : ℕ
 largest = 999999999
 
 abbrev pub number_of : List ℕ → ℕ
-number_of digits = smaller (value digits) largest
+number_of digits = min (value digits) largest
 
 -- ---- a reading: an optional minus, digits, and optionally a point and digits
 

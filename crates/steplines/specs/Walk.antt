@@ -1,11 +1,11 @@
 -- What the code finds on its way through a line: the fields that are left, and a number with the decimals that decide an angle. No meaning of a line rests
 -- on it. Assumes nothing.
-use Rattle.std.specs.Prelude.{ℕ, zero, suc, ◌+◌, ◌-◌, ◌*◌, ◌/◌, ◌%◌, Bool, true, false, cond, not, ◌&&◌, List, eqb, leb, Option, Some, None, get_or}
+use Rattle.std.specs.Prelude.{ℕ, min, zero, suc, ◌+◌, ◌-◌, ◌*◌, ◌/◌, ◌%◌, Bool, true, false, cond, not, ◌&&◌, List, eqb, leb, Option, Some, None, get_or}
 use Rattle.arm.specs.declared.Reading.{Reading}
 use Rattle.arm.specs.declared.Reading.TheVariants.{Angle, Refused}
 use Rattle.steplines.specs.declared.field.Fields.{Fields}
 use Rattle.steplines.specs.Fields.{is_blank, fields}
-use Rattle.steplines.specs.Numbers.{is_number, smaller, largest, number_of}
+use Rattle.steplines.specs.Numbers.{is_number, largest, number_of}
 
 -- ---- fields
 
@@ -21,7 +21,7 @@ fields_left f = fields f.rest.now
 
 -- n with the digit b after it
 abbrev pub with_digit : ℕ → ℕ → ℕ
-with_digit n b = smaller (n * 10 + (b - 48)) largest
+with_digit n b = min (n * 10 + (b - 48)) largest
 
 abbrev pub number_in : List ℕ → Option ℕ
 number_in field = cond (is_number field) (Some (number_of field)) None

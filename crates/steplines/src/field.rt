@@ -27,7 +27,7 @@ fn first_blank(line: &[u8]) -> Option<usize>
 }
 
 /// How many bytes come before the first blank, or before the end.
-#[tactic(auto, using(crate::proofs::Fields::position_or, crate::proofs::Fields::places_most))]
+#[tactic(auto, using(crate::proofs::Fields::position_or))]
 fn field_length(line: &[u8]) -> usize
     ensures place { result ≡ position_or_len is_blank line.now }
     ensures within { result ≤ length line.now }

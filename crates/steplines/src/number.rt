@@ -1,7 +1,7 @@
 //! The numbers of a line: a whole number, and the arm's reading in decimal degrees.
 
 ghost use Rattle.std.specs.Prelude.{◌≡◌, ◌+◌, ◌-◌, ◌*◌, ◌==◌, ◌<◌, true, false, length, drop, position, IfSome, MatchOption};
-ghost use Rattle.steplines.specs.Numbers.{all_digits, is_number, smaller, largest, number_of, has_minus, unsigned, whole_of, decimals_of, is_reading, angle_in, degrees_of};
+ghost use Rattle.steplines.specs.Numbers.{all_digits, is_number, largest, number_of, has_minus, unsigned, whole_of, decimals_of, is_reading, angle_in, degrees_of};
 ghost use Rattle.steplines.specs.Walk.{with_digit, with_decimals, most_with, number_in};
 
 use arm::Reading;
@@ -23,7 +23,6 @@ fn figure(byte: u8) -> u64
 }
 
 /// A number with one digit more, up to the largest.
-#[tactic(auto, using(crate::proofs::Numbers::smaller_min))]
 fn with_digit(number: u32, byte: u8) -> u32
     ensures { result ≡ with_digit number byte }
 {
@@ -92,7 +91,7 @@ pub(crate) struct Decimal<'a> {
 
 impl<'a> Decimal<'a> {
     /// None where there is no digit, or anything but digits.
-    #[tactic(auto, using(crate::proofs::Numbers::reading_none, crate::proofs::Numbers::reading_not, crate::proofs::Numbers::reading_all))]
+    #[tactic(auto, using(crate::proofs::Numbers::reading_none, crate::proofs::Numbers::reading_some))]
     pub(crate) fn parse(field: &'a [u8]) -> Option<Decimal<'a>>
         ensures { let whole = whole_of (unsigned field.entry.now) in let decimals = decimals_of (unsigned field.entry.now) in MatchOption result (is_reading whole decimals ≡ false)
             (λ d. (is_reading whole decimals ≡ true) × (d.minus ≡ has_minus field.entry.now) × (d.whole.now ≡ whole) × (d.decimals.now ≡ decimals)) }
@@ -144,7 +143,7 @@ impl<'a> Decimal<'a> {
     }
 
     /// The angle in 64ths of a degree, of which 15,625 millionths are one, with no float in between.
-    #[tactic(auto, using(crate::proofs::Numbers::smaller_most, crate::proofs::Readings::reading_six))]
+    #[tactic(auto, using(crate::proofs::Readings::reading_six))]
     fn angle(&self) -> Reading
         ensures { result ≡ angle_in self.now.minus self.now.whole.now self.now.decimals.now }
     {
