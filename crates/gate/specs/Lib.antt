@@ -1,2 +1,3 @@
 pub mod Word
 pub mod Held
+pub mod Status

@@ -1,31 +1,16 @@
-// `gate bench`: lines of settings and steps as they come, the record's lines as they are made, refusals on standard error. What a line gives is
-// `live`'s; here lines are gathered from reads, and what they give is written before the next read, and before a refusal is said.
+//! `gate bench`: lines of settings and steps as they come, the record's lines as they are made, refusals on standard error. What a line gives is
+//! `live`'s; here lines are gathered from reads, and what they give is written before the next read, and before a refusal is said.
+
 ghost use Rattle.std.specs.Prelude.{◌≡◌, ◌+◌, ◌≤◌, length};
 ghost use Rattle.gate.specs.Held.{IsPrefixLen};
 
 use crate::words::{put_out, say_failure, say_refusal};
-use crate::zeros;
+use crate::{Problem, zeros};
+use arrayvec::ArrayVec;
 use live::{Given, Live};
 use std::io::{Input, Read};
 
-// The bytes held of the present line, the bytes that are to go out, the lines ended, whether one was refused, and whether a write failed.
-#[derive(Clone, Copy)]
-struct Tally {
-    held: usize,
-    pending: usize,
-    lines: u64,
-    refused: bool,
-    failed: bool,
-}
-
-// The bench beside it.
-#[derive(Clone, Copy)]
-struct Desk {
-    live: Live,
-    tally: Tally,
-}
-
-// What a line gives, within its buffer.
+/// What a line gives, within its buffer.
 #[tactic(auto, using(crate::proofs::Counts::given_held, live::proofs::Taking::line_few))]
 fn give_line(live: Live, line: &[u8], out: &mut [u8]) -> Given
     ensures { IsPrefixLen result.bytes out.new }
@@ -33,7 +18,7 @@ fn give_line(live: Live, line: &[u8], out: &mut [u8]) -> Given
     live::take_line(live, line, out)
 }
 
-// And the end of the input.
+/// And the end of the input.
 #[tactic(auto, using(crate::proofs::Counts::given_held, live::proofs::Taking::end_few))]
 fn give_last(live: Live, out: &mut [u8]) -> Given
     ensures { IsPrefixLen result.bytes out.new }
@@ -41,211 +26,161 @@ fn give_last(live: Live, out: &mut [u8]) -> Given
     live::finish(live, out)
 }
 
-// What is to go out is written.
-fn flush<R: Print + Eprint + AllocGlobal>(rt: &R, tally: Tally, window: &[u8]) -> Tally
-    ensures { result.pending ≡ 0 }
-{
-    let n = tally.pending;
-    let mut t = tally;
-    t.pending = 0;
-    if n <= window.len() {
-        t.failed = !put_out(rt, &window[..n]);
-        return t;
-    }
-    t
+/// What is to go out: the first `pending` bytes.
+#[derive(Drop)]
+struct Window {
+    bytes: [u8; 8192],
+    pending: usize,
+    ghost within: { pending ≤ 8192 },
 }
 
-// Space for the longest lines that go out at once: the record's head and its last line.
-fn make_room<R: Print + Eprint + AllocGlobal>(rt: &R, tally: Tally, window: &[u8]) -> Tally
-    requires { 240 ≤ length window.now }
-    ensures { result.pending + 240 ≤ length window.now }
-{
-    if tally.pending <= window.len() - 240 {
-        return tally;
-    }
-    flush(rt, tally, window)
-}
-
-// A line that was answered with this number, and with so many bytes that are to go out; a refusal is said.
-fn note_line<R: Print + Eprint + AllocGlobal>(
-    rt: &R,
-    tally: Tally,
-    number: u8,
-    bytes: usize,
-    window: &[u8],
-) -> Tally {
-    let mut t = tally;
-    t.held = 0;
-    t.lines = std::num::wrapping_add_u64(tally.lines, 1);
-    t.pending = std::num::wrapping_add_usize(tally.pending, bytes);
-    if number == 0 {
-        return t;
-    }
-    t = flush(rt, t, window);
-    say_refusal(
-        rt,
-        t.lines,
-        number,
-        "no settings and no step, or not in its place",
-    );
-    t.refused = true;
-    t
-}
-
-// A line has ended: its lines of the record are to go out, or its refusal is said.
-fn take_line<R: Print + Eprint + AllocGlobal>(
-    rt: &R,
-    desk: Desk,
-    line: &[u8],
-    window: &mut [u8],
-) -> Desk
-    requires { 240 ≤ length window.old }
-{
-    let before = desk.live;
-    let t = make_room(rt, desk.tally, window);
-    let at = t.pending;
-    let g = give_line(before, line, &mut window[at..]);
-    let after = g.live;
-    let noted = note_line(rt, t, g.number, g.bytes, window);
-    Desk {
-        live: after,
-        tally: noted,
-    }
-}
-
-// The line that is held, where it has ended.
-fn end_line<R: Print + Eprint + AllocGlobal>(
-    rt: &R,
-    desk: Desk,
-    line: &[u8],
-    ended: bool,
-    window: &mut [u8],
-) -> Desk
-    requires { 240 ≤ length window.old }
-{
-    let n = desk.tally.held;
-    if !ended {
-        return desk;
-    }
-    if n <= line.len() {
-        return take_line(rt, desk, &line[..n], window);
-    }
-    desk
-}
-
-// The place of the next byte 10 from `at` on; past the last where there is none.
-fn line_end(bytes: &[u8], at: usize) -> usize
-    requires { at ≤ length bytes.now }
-    ensures { (at ≤ result) × (result ≤ length bytes.now) }
-{
-    let mut i = at;
-    while i < bytes.len() {
-        if bytes[i] == 10 {
-            return i;
-        }
-        i = i + 1;
-    }
-    i
-}
-
-// These bytes after the `held` bytes of a line, as many as there is space for: how many are held.
-fn hold(line: &mut [u8], held: usize, bytes: &[u8]) -> usize {
-    let mut n = held;
-    let mut i: usize = 0;
-    while i < bytes.len() {
-        if line.len() <= n {
-            return n;
-        }
-        line[n] = bytes[i];
-        n = n + 1;
-        i = i + 1;
-    }
-    n
-}
-
-// The bytes of a read: lines of any length, of which so much is held that their meaning shows. All that they give is written.
-fn take_bytes<R: Print + Eprint + AllocGlobal>(
-    rt: &R,
-    desk: Desk,
-    bytes: &[u8],
-    line: &mut [u8],
-    window: &mut [u8],
-) -> Desk
-    requires { 240 ≤ length window.old }
-{
-    let mut d = desk;
-    let mut i: usize = 0;
-    while i < bytes.len() {
-        let e = line_end(bytes, i);
-        let held = hold(line, d.tally.held, &bytes[i..e]);
-        d.tally.held = held;
-        i = e + 1;
-        d = end_line(rt, d, line, e < bytes.len(), window);
-        if d.tally.failed {
-            return d;
-        }
-    }
-    let t = flush(rt, d.tally, window);
-    d.tally = t;
-    d
-}
-
-// The end of the input: a line without its byte 10 is taken, then the record's last line goes out. The status.
-fn end_input<R: Print + Eprint + AllocGlobal>(
-    rt: &R,
-    desk: Desk,
-    line: &[u8],
-    window: &mut [u8],
-) -> u8
-    requires { 240 ≤ length window.old }
-    ensures { result ≤ 2 }
-{
-    let d = end_line(rt, desk, line, 0 < desk.tally.held, window);
-    let last = d.live;
-    let mut t = make_room(rt, d.tally, window);
-    let at = t.pending;
-    let g = give_last(last, &mut window[at..]);
-    t.pending = std::num::wrapping_add_usize(at, g.bytes);
-    t = flush(rt, t, window);
-    if t.failed {
-        return 2;
-    }
-    if t.refused { 1 } else { 0 }
-}
-
-// Standard input, read as it comes. The status: which one is the operating system's and the input's to decide.
-pub(crate) fn bench_input<R: Input + Print + Eprint + AllocGlobal>(rt: &R) -> u8
-    ensures { result ≤ 2 }
-{
-    let fresh = live::fresh();
-    let mut desk = Desk {
-        live: fresh,
-        tally: Tally {
-            held: 0,
+impl Window {
+    fn new() -> Window {
+        Window {
+            bytes: zeros::<8192>(),
             pending: 0,
+        }
+    }
+
+    /// What is to go out is written.
+    fn flush<R: Print + Eprint + AllocGlobal>(&mut self, rt: &R) -> Result<(), Problem>
+        ensures { self.new.pending ≡ 0 }
+    {
+        let pending = self.pending;
+        self.pending = 0;
+        put_out(rt, &self.bytes[..pending])
+    }
+
+    /// Space for the longest lines that go out at once: the record's head and its last line.
+    fn make_room<R: Print + Eprint + AllocGlobal>(&mut self, rt: &R) -> Result<(), Problem>
+        ensures { self.new.pending + 240 ≤ 8192 }
+    {
+        if self.pending + 240 <= self.bytes.len() {
+            return Ok(());
+        }
+        self.flush(rt)
+    }
+
+    /// What a line gives is to go out.
+    fn take_line(&mut self, live: Live, line: &[u8]) -> Given {
+        let given = give_line(live, line, &mut self.bytes[self.pending..]);
+        self.pending += given.bytes;
+        given
+    }
+
+    /// And what the end of the input gives.
+    fn take_last(&mut self, live: Live) -> Given {
+        let given = give_last(live, &mut self.bytes[self.pending..]);
+        self.pending += given.bytes;
+        given
+    }
+}
+
+/// The bench at the keyboard: so much of the present line as shows its meaning, what is to go out, the lines ended, and whether one was refused.
+#[derive(Drop)]
+struct Keyboard<'a, R> {
+    rt: &'a R,
+    live: Live,
+    line: ArrayVec<u8, 1001>,
+    window: Window,
+    lines: u64,
+    refused: bool,
+}
+
+impl<'a, R: Print + Eprint + AllocGlobal> Keyboard<'a, R> {
+    fn new(rt: &'a R) -> Keyboard<'a, R> {
+        Keyboard {
+            rt,
+            live: live::fresh(),
+            line: ArrayVec::new(),
+            window: Window::new(),
             lines: 0,
             refused: false,
-            failed: false,
-        },
-    };
-    let mut line = [0u8; 1001];
-    let mut window = zeros::<8192>();
-    let mut input = rt.reader();
-    for _ in 0..u64::MAX {
-        let mut chunk = [0u8; 4096];
-        match input.read(&mut chunk) {
-            Err(e) => {
-                say_failure(rt, "standard input", e);
-                return 2;
-            }
-            Ok(0) => return end_input(rt, desk, &line, &mut window),
-            Ok(n) => {
-                desk = take_bytes(rt, desk, &chunk[..n], &mut line, &mut window);
-            }
-        }
-        if desk.tally.failed {
-            return 2;
         }
     }
-    2
+
+    /// These bytes after those that are held, as many as there is space for.
+    fn hold(&mut self, bytes: &[u8]) {
+        let room = self.line.remaining_capacity();
+        let _ = self
+            .line
+            .try_extend_from_slice(&bytes[..bytes.len().min(room)]);
+    }
+
+    /// The line that is held has ended: its lines of the record are to go out, or its refusal is said.
+    fn take_line(&mut self) -> Result<(), Problem> {
+        let room = self.window.make_room(self.rt);
+        let given = self.window.take_line(self.live, self.line.as_slice());
+        self.live = given.live;
+        self.line.clear();
+        self.lines = self.lines.wrapping_add(1);
+        if given.number == 0 {
+            return room;
+        }
+        let written = self.window.flush(self.rt);
+        say_refusal(
+            self.rt,
+            self.lines,
+            given.number,
+            "no settings and no step, or not in its place",
+        );
+        self.refused = true;
+        room.and(written)
+    }
+
+    /// The bytes of a read: lines of any length. All that they give is written.
+    fn take(&mut self, bytes: &[u8]) -> Result<(), Problem> {
+        for part in bytes.split_inclusive(|byte| *byte == b'\n') {
+            match part {
+                [line @ .., b'\n'] => {
+                    self.hold(line);
+                    self.take_line()?;
+                }
+                _ => self.hold(part),
+            }
+        }
+        self.window.flush(self.rt)
+    }
+
+    /// A line without its byte 10, at the end of the input.
+    fn take_last(&mut self) -> Result<(), Problem> {
+        if self.line.is_empty() {
+            return Ok(());
+        }
+        self.take_line()
+    }
+
+    /// The record's last line goes out.
+    fn give_end(&mut self) -> Result<(), Problem> {
+        let room = self.window.make_room(self.rt);
+        self.live = self.window.take_last(self.live).live;
+        let written = self.window.flush(self.rt);
+        room.and(written)
+    }
+
+    /// The end of the input.
+    fn end(&mut self) -> Result<(), Problem> {
+        let taken = self.take_last();
+        let given = self.give_end();
+        taken.and(given)?;
+        if self.refused {
+            return Err(Problem::Refused);
+        }
+        Ok(())
+    }
+}
+
+/// Standard input, read as it comes.
+pub(crate) fn bench_input<R: Input + Print + Eprint + AllocGlobal>(rt: &R) -> Result<(), Problem> {
+    let mut keyboard = Keyboard::new(rt);
+    let mut input = rt.reader();
+    let mut chunk = [0u8; 4096];
+    for _ in 0..u64::MAX {
+        match input.read(&mut chunk) {
+            Ok(0) => return keyboard.end(),
+            Ok(n) => keyboard.take(&chunk[..n])?,
+            Err(e) => return Err(say_failure(rt, "standard input", e)),
+        }
+    }
+    Err(Problem::Failed)
 }

@@ -1,6 +1,6 @@
-// The program, standard input to standard output: `gate bench` runs a bench live, `gate report` writes a record's report, `gate to-new` and
-// `gate to-old` the record in the other form. Its status is 0; 1 where a text or a step was refused; 2 where it was called wrongly or could not
-// read or write. With `status-on-3` before the word it writes the status's digit to descriptor 3 too, at its end.
+//! The program, standard input to standard output: `gate bench` runs a bench live, `gate report` writes a record's report, `gate to-new` and
+//! `gate to-old` the record in the other form. Its status is 0; 1 where a text or a step was refused; 2 where it was called wrongly or could not
+//! read or write. With `status-on-3` before the word it writes the status's digit to descriptor 3 too, at its end.
 #![tactic(auto)]
 
 mod keyboard;
@@ -10,6 +10,7 @@ ghost use Rattle.std.specs.Prelude.{◌≡◌, ◌≤◌, length};
 ghost use Rattle.std.specs.Io.{ReadsAtMost};
 ghost use Rattle.report.specs.Report.{report_of};
 ghost use Rattle.gate.specs.Word.{task_of};
+ghost use Rattle.gate.specs.Status.{status_of};
 ghost use Rattle.gate.specs.Held.{Held, Turned};
 
 use converter::Converted;
@@ -21,10 +22,18 @@ use std::io;
 use std::io::{Input, Read, Write};
 use std::process::ExitCode;
 use std::rt::{Env, Files};
-use steplines::is_word;
 use words::{put_out, say_failure, say_refusal};
 
-// What the command line asks for.
+/// Why a call does not end well; as a number, its status.
+#[derive(Clone, Copy, Debug, PartialEq, Eq)]
+pub(crate) enum Problem {
+    /// A text or a step was refused, which has been said.
+    Refused = 1,
+    /// The call was wrong, or a read or a write failed, which has been said.
+    Failed = 2,
+}
+
+/// What the command line asks for.
 #[derive(Clone, Copy)]
 enum Task {
     Bench,
@@ -34,74 +43,71 @@ enum Task {
     Usage,
 }
 
-// What the command line asks for, and whether the status is to be told.
+/// What the command line asks for, and whether the status is to be told.
 #[derive(Clone, Copy)]
 struct Call {
     task: Task,
     tells: bool,
 }
 
-// Reads to the end of the input, or until the buffer is full: how many bytes.
-fn read_input<I: Read>(input: &mut I, buf: &mut [u8]) -> io::Result<usize>
-    ensures { ReadsAtMost result buf.new }
+/// Reads to the end of the input, or until the buffer is full: how many bytes. Each read goes on where the one before it ended.
+fn fill<I: Read>(input: &mut I, buffer: &mut [u8]) -> io::Result<usize>
+    ensures { ReadsAtMost result buffer.new }
 {
-    let mut n: usize = 0;
-    while n < buf.len() {
-        let more = input.read(&mut buf[n..])?;
+    let mut filled = 0;
+    while filled < buffer.len() {
+        let more = input.read(&mut buffer[filled..])?;
         if more == 0 {
-            return Ok(n);
+            break;
         }
-        n = n + more;
+        filled += more;
     }
-    Ok(n)
+    Ok(filled)
 }
 
-// What a word of the command line asks for.
-fn task_of(word: &[u8]) -> Task
+/// Standard input, up to the buffer's end: how many bytes.
+fn read_input<R: Input + Eprint + AllocGlobal>(rt: &R, buffer: &mut [u8]) -> Result<usize, Problem>
+    ensures { ReadsAtMost result buffer.new }
+{
+    fill(&mut rt.reader(), buffer).map_err(|e| say_failure(rt, "standard input", e))
+}
+
+/// What a word of the command line asks for.
+#[tactic(auto, using(crate::proofs::Tasks::word_is))]
+fn task_of(word: &str) -> Task
     ensures { result ≡ task_of word.now }
 {
-    if is_word(b"bench", word) {
-        Task::Bench
-    } else if is_word(b"report", word) {
-        Task::Report
-    } else if is_word(b"to-new", word) {
-        Task::ToNew
-    } else if is_word(b"to-old", word) {
-        Task::ToOld
-    } else {
-        Task::Usage
+    match word {
+        "bench" => Task::Bench,
+        "report" => Task::Report,
+        "to-new" => Task::ToNew,
+        "to-old" => Task::ToOld,
+        _ => Task::Usage,
     }
 }
 
-// What word i of the command line asks for, where there are so many words, the program's name among them. One that is no text, or longer than
-// the buffer, is no word of the program's.
-fn task_at<R: Env>(rt: &R, i: usize, words: usize) -> Task {
-    let mut word = [0u8; 4096];
-    let Err(FillError::NotPresent) = rt.arg(words, &mut word) else {
-        return Task::Usage;
-    };
-    match rt.arg(i, &mut word) {
-        Ok(n) => task_of(&word[..n]),
-        Err(_) => Task::Usage,
-    }
+/// Word i of the command line, the program's name being word 0. One that is no text, or longer than the buffer, is no word of the program's.
+fn word_at<'a, R: Env>(rt: &R, i: usize, buffer: &'a mut [u8]) -> Option<&'a str> {
+    let n = rt.arg(i, buffer).ok()?;
+    str::from_utf8(&buffer[..n]).ok()
 }
 
-// What the command line asks for: one word, or `status-on-3` and one.
+/// What the command line asks for: one word, or `status-on-3` and one.
 fn asked<R: Env>(rt: &R) -> Call {
-    let mut word = [0u8; 4096];
-    let tells = match rt.arg(1, &mut word) {
-        Ok(n) => is_word(b"status-on-3", &word[..n]),
-        Err(_) => false,
+    let mut buffer = [0u8; 4096];
+    let tells = word_at(rt, 1, &mut buffer) == Some("status-on-3");
+    let last = if tells { 2 } else { 1 };
+    let Err(FillError::NotPresent) = rt.arg(last + 1, &mut buffer) else {
+        return Call {
+            task: Task::Usage,
+            tells,
+        };
     };
-    let task = if tells {
-        task_at(rt, 2, 3)
-    } else {
-        task_at(rt, 1, 2)
-    };
+    let task = word_at(rt, last, &mut buffer).map_or(Task::Usage, task_of);
     Call { task, tells }
 }
 
-// The status's digit on descriptor 3, where the caller has it open: std writes to it by its name alone.
+/// The status's digit on descriptor 3, where the caller has it open: std writes to it by its name alone.
 fn tell<R: Files>(rt: &R, status: u8)
 where
     R::File: Drop,
@@ -111,7 +117,7 @@ where
     }
 }
 
-// The report of a text, at the start of a buffer that holds every report, its other bytes as they were: how many bytes the report has.
+/// The report of a text, at the start of a buffer that holds every report, its other bytes as they were: how many bytes the report has.
 #[tactic(auto, using(crate::proofs::Counts::report_fits, crate::proofs::Counts::report_held, report::proofs::Bounds::report_few))]
 fn make_report(text: &[u8], out: &mut [u8]) -> usize
     requires { 156000 ≤ length out.old }
@@ -120,42 +126,25 @@ fn make_report(text: &[u8], out: &mut [u8]) -> usize
     report::report(text, out).unwrap()
 }
 
-// Whether a report is that of a refused text: its one line has the letter R.
+/// Whether a report is that of a refused text: its one line has the letter R.
 fn is_refusal(report: &[u8]) -> bool {
-    if 17 < report.len() {
-        report[17] == b'R'
-    } else {
-        false
-    }
+    matches!(report.get(17), Some(b'R'))
 }
 
-// The report of a text, on standard output: the status.
-fn write_report<R: Print + Eprint + AllocGlobal>(rt: &R, text: &[u8]) -> u8
-    ensures { result ≤ 2 }
-{
-    let mut out = zeros::<156000>();
-    let n = make_report(text, &mut out);
-    if !put_out(rt, &out[..n]) {
-        return 2;
-    }
-    if is_refusal(&out[..n]) { 1 } else { 0 }
-}
-
-// The report of standard input. One byte above the report's limit is enough to know that a text is too long.
-fn report_input<R: Input + Print + Eprint + AllocGlobal>(rt: &R) -> u8
-    ensures { result ≤ 2 }
-{
+/// The report of standard input, on standard output. One byte above the report's limit is enough to know that a text is too long.
+fn report_input<R: Input + Print + Eprint + AllocGlobal>(rt: &R) -> Result<(), Problem> {
     let mut text = zeros::<65536>();
-    match read_input(&mut rt.reader(), &mut text) {
-        Ok(n) => write_report(rt, &text[..n]),
-        Err(e) => {
-            say_failure(rt, "standard input", e);
-            2
-        }
+    let mut out = zeros::<156000>();
+    let n = read_input(rt, &mut text)?;
+    let bytes = make_report(&text[..n], &mut out);
+    put_out(rt, &out[..bytes])?;
+    if is_refusal(&out[..bytes]) {
+        return Err(Problem::Refused);
     }
+    Ok(())
 }
 
-// A text of the form `f` in the other form, at the start of a buffer that holds it whole, its other bytes as they were.
+/// A text of the form `f` in the other form, at the start of a buffer that holds it whole, its other bytes as they were.
 #[tactic(auto, using(crate::proofs::Counts::turned_held))]
 fn make_text(f: Layout, text: &[u8], out: &mut [u8]) -> Converted
     requires { (length text.now ≤ 1000000) × (1066800 ≤ length out.old) }
@@ -167,51 +156,47 @@ fn make_text(f: Layout, text: &[u8], out: &mut [u8]) -> Converted
     }
 }
 
-// So many zeros.
+/// So many zeros.
 pub(crate) fn zeros<const N: usize>() -> [u8; N]
     ensures { N ≡ length result }
 {
     [0; N]
 }
 
-// A text of the form `f` in the other form, on standard output; a refusal on standard error: the status.
-fn write_text<R: Print + Eprint + AllocGlobal>(rt: &R, f: Layout, text: &[u8]) -> u8
+/// A text of the form `f` in the other form, on standard output; a refusal on standard error.
+fn write_text<R: Print + Eprint + AllocGlobal>(
+    rt: &R,
+    f: Layout,
+    text: &[u8],
+) -> Result<(), Problem>
     requires { length text.now ≤ 1000000 }
-    ensures { result ≤ 2 }
 {
     let mut out = zeros::<1066800>();
     let c = make_text(f, text, &mut out);
-    let v = c.verdict;
-    let n = c.bytes;
-    match v {
-        Verdict::Taken => { if put_out(rt, &out[..n]) { 0 } else { 2 } }
-        Verdict::Refused(k) => {
+    match c.verdict {
+        Verdict::Taken => put_out(rt, &out[..c.bytes]),
+        Verdict::Refused(number) => {
             say_refusal(
                 rt,
                 c.line as u64,
-                k,
+                number,
                 "the line is not in the columns, is missing, or follows the last",
             );
-            1
+            Err(Problem::Refused)
         }
     }
 }
 
-// Standard input in the other form. One byte above the limit is enough to know that a text is too long.
-fn convert_input<R: Input + Print + Eprint + AllocGlobal>(rt: &R, f: Layout) -> u8
-    ensures { result ≤ 2 }
-{
+/// Standard input in the other form. One byte above the limit is enough to know that a text is too long.
+fn convert_input<R: Input + Print + Eprint + AllocGlobal>(
+    rt: &R,
+    f: Layout,
+) -> Result<(), Problem> {
     let mut text = zeros::<1000001>();
-    let n = match read_input(&mut rt.reader(), &mut text) {
-        Ok(n) => n,
-        Err(e) => {
-            say_failure(rt, "standard input", e);
-            return 2;
-        }
-    };
+    let n = read_input(rt, &mut text)?;
     if 1000000 < n {
         let _ = eprintln!(rt; "gate: the record is longer than 1,000,000 bytes");
-        return 2;
+        return Err(Problem::Failed);
     }
     write_text(rt, f, &text[..n])
 }
@@ -222,17 +207,13 @@ report: the report of a record
 to-new: a record of 14 columns in 15 columns
 to-old: a record of 15 columns in 14 columns";
 
-// How the program is used.
-fn usage<R: Eprint>(rt: &R) -> u8
-    ensures { result ≤ 2 }
-{
+/// How the program is used.
+fn usage<R: Eprint>(rt: &R) -> Result<(), Problem> {
     let _ = eprintln!(rt; "{USAGE}");
-    2
+    Err(Problem::Failed)
 }
 
-fn run<R: Input + Print + Eprint + AllocGlobal>(rt: &R, task: Task) -> u8
-    ensures { result ≤ 2 }
-{
+fn run<R: Input + Print + Eprint + AllocGlobal>(rt: &R, task: Task) -> Result<(), Problem> {
     match task {
         Task::Bench => keyboard::bench_input(rt),
         Task::Report => report_input(rt),
@@ -242,9 +223,19 @@ fn run<R: Input + Print + Eprint + AllocGlobal>(rt: &R, task: Task) -> u8
     }
 }
 
+/// The status that a call ends with.
+fn status_of(ended: Result<(), Problem>) -> u8
+    ensures { result ≡ status_of ended }
+{
+    match ended {
+        Ok(()) => 0,
+        Err(problem) => problem as u8,
+    }
+}
+
 fn main(rt: HostRuntime) -> ExitCode {
     let call = asked(&rt);
-    let status = run(&rt, call.task);
+    let status = status_of(run(&rt, call.task));
     if call.tells {
         tell(&rt, status);
     }

@@ -1,18 +1,18 @@
-// What the program says: bytes on standard output, refusals and failures in words on standard error.
+//! What the program says: bytes on standard output, refusals and failures in words on standard error.
+
+use crate::Problem;
 use std::io;
 
-// On standard output; whether it was written.
-pub(crate) fn put_out<R: Print + Eprint + AllocGlobal>(rt: &R, bytes: &[u8]) -> bool {
-    match rt.write_all(bytes) {
-        Ok(()) => true,
-        Err(e) => {
-            say_failure(rt, "standard output", e);
-            false
-        }
-    }
+/// On standard output; a failure is said.
+pub(crate) fn put_out<R: Print + Eprint + AllocGlobal>(
+    rt: &R,
+    bytes: &[u8],
+) -> Result<(), Problem> {
+    rt.write_all(bytes)
+        .map_err(|e| say_failure(rt, "standard output", e))
 }
 
-// A message of the system without its number.
+/// A message of the system without its number.
 fn without_number(message: &str) -> &str {
     match message.split_once(" (os error ") {
         Some((words, _)) => words,
@@ -20,8 +20,8 @@ fn without_number(message: &str) -> &str {
     }
 }
 
-// A read or a write that failed, in the system's words.
-pub(crate) fn say_failure<R: Eprint + AllocGlobal>(rt: &R, what: &str, e: io::Error) {
+/// A read or a write that failed, in the system's words.
+pub(crate) fn say_failure<R: Eprint + AllocGlobal>(rt: &R, what: &str, e: io::Error) -> Problem {
     let _ = match format!(in rt.alloc(); "{e}") {
         Ok(message) => {
             let words = without_number(message.as_str());
@@ -29,9 +29,10 @@ pub(crate) fn say_failure<R: Eprint + AllocGlobal>(rt: &R, what: &str, e: io::Er
         }
         Err(_) => eprintln!(rt; "gate: {what}"),
     };
+    Problem::Failed
 }
 
-// A refusal in words; what 15 means is the caller's to say.
+/// A refusal in words; what 15 means is the caller's to say.
 fn reason(number: u8, format: &'static str) -> &'static str {
     match number {
         1 => "a setting is outside its range",
@@ -55,7 +56,7 @@ fn reason(number: u8, format: &'static str) -> &'static str {
     }
 }
 
-// The line, the number and the words of a refusal.
+/// The line, the number and the words of a refusal.
 pub(crate) fn say_refusal<R: Eprint>(rt: &R, line: u64, number: u8, format: &'static str) {
     let words = reason(number, format);
     let _ = eprintln!(rt; "line {line}: refused {number}: {words}");

@@ -9,10 +9,9 @@ use Rattle.arm.specs.Angle.{degrees}
 use Rattle.runs.specs.declared.Step.TheVariants.{Approach, Leave, Clock}
 use Rattle.runs.specs.Letters.{letter_of}
 use Rattle.lines.specs.Bytes.{starts}
-use Rattle.steplines.specs.declared.Meaning.TheVariants.{Skip, Start, Take, Wrong}
 use Rattle.steplines.specs.Fields.{fields_from}
-use Rattle.steplines.specs.Numbers.{all_digits, value_from, whole_of, decimals_of, angle_of}
-use Rattle.steplines.specs.StepLine.{clock_with, step_of, settings_word, all_numbers, start_with, start_of, meaning_of}
+use Rattle.steplines.specs.Numbers.{value_from, whole_of, decimals_of, angle_of}
+use Rattle.steplines.specs.StepLine.{Skip, Start, Take, Wrong, clock_with, step_of, settings_word, all_numbers, start_with, start_of, meaning_of}
 
 -- `T 45.015625`
 abbrev exact : List ℕ
@@ -102,5 +101,5 @@ examples :
     × (meaning_of (settings_ones 7) ≡ Start (kinds_alike (settings_of (replicate 7 1))))
     × (meaning_of (settings_ones 12) ≡ Wrong)
     × (meaning_of (settings_ones 13) ≡ Start (settings_of (replicate 13 1)))
-unfolding letter_of starts fields_from all_digits value_from whole_of decimals_of angle_of clock_with step_of all_numbers start_with start_of meaning_of
+unfolding letter_of starts fields_from value_from whole_of decimals_of angle_of clock_with step_of all_numbers start_with start_of meaning_of
 examples = (refl, refl, refl, refl, refl, refl, refl, refl, refl, refl, refl, refl, refl, refl, refl, refl, refl, refl)

@@ -1,85 +1,104 @@
--- Laws of runs and fields. Assumes nothing.
-use Prim.Native.Nat.{ℕ, ◌+◌, ◌-◌, ◌≤◌, ◌<◌}
-use native.Mathlib.Numerals.{add-one}
-use native.Mathlib.Omega.{arith}
-use mathlib.Core.Path.{◌≡◌, refl, ◌∙◌}
-use mathlib.Core.Bool.{Bool, true, false, false≢true}
+-- Laws of fields. Assumes nothing.
+use Rattle.std.proofs.Common.{◌≡◌, ℕ, suc, ◌-◌, ◌<◌, Bool, true, false, cond, not, List, [], ◌∷◌, ◌++◌, Some, None, length, take, drop, refl, ◌∙◌, arith, append_assoc}
+use Rattle.std.proofs.Math.Numerals.{one-add}
+use Rattle.std.specs.Prelude.{position, unwrap_or, eqb, ltb, ◌&&◌}
+use Rattle.std.specs.List.{position_or_len}
+use Rattle.std.proofs.lemmas.List.{take_rest}
+use Rattle.std.proofs.lemmas.List.Sums.{prefix_len-le-length}
+use Rattle.std.specs.Cmp.Lexicographic.{pointwise}
+use mathlib.Core.List.{append-nil}
+use mathlib.Core.Bool.{and-false}
 use borrow.Table.Steps.{cases}
-use mathlib.Core.List.{List, [], ◌∷◌, ◌++◌, append_assoc, append-nil}
-use lib.Dec.{eqb}
-use lib.ListN.{length, get_or, take, drop, drop_of_length-le, length-drop}
-use lib.Seq.{drop-cons, drop-drop}
-use Rattle.steplines.specs.Fields.{is_blank, closed, fields_from, fields, begins}
-use Rattle.steplines.specs.Walk.{belongs, run_of, FieldAt}
+use borrow.Author.Tests.{eqb-true, eqb-false, ltb-true, ltb-false, eq-eqb, ne_eqb}
+use Rattle.lines.specs.Bytes.{starts}
+use Rattle.steplines.specs.Fields.{is_blank, closed, fields_from, fields, is_word}
 
--- ---- a run, byte by byte
-module _ (blank : Bool) where
-  pub run_past : (l : List ℕ) (i : ℕ) → length l ≤ i → i + run_of blank (drop i l) ≡ i
-  unfolding run_of
-  run_past l i h = rw (drop_of_length-le l {i = i} h) (omega arith)
+-- ---- the first place at which p passes
 
-  module _ (l : List ℕ) (i : ℕ) (h : i < length l) where
-    pub run_more : belongs blank (get_or l i 0) ≡ true → i + run_of blank (drop i l) ≡ i + 1 + run_of blank (drop (i + 1) l)
-    unfolding run_of
-    run_more b = rw (add-one i, drop-cons l i 0 h, b) (omega arith)
+pub some_place : (b : Bool) (n i : ℕ) → cond b (Some n) None ≡ Some i → (b ≡ true) × (n ≡ i)
+some_place true n i e = (refl, cc)
+some_place false n i e = absurd (cc)
 
-    pub run_stop : belongs blank (get_or l i 0) ≡ false → i + run_of blank (drop i l) ≡ i
-    unfolding run_of
-    run_stop b = rw (drop-cons l i 0 h, b) (omega arith)
+pub no_place : (b : Bool) (n : ℕ) → cond b (Some n) None ≡ None → b ≡ false
+no_place true n e = absurd (cc)
+no_place false n e = refl
 
-  pub run_within : (l : List ℕ) → run_of blank l ≤ length l
-  unfolding run_of
-  run_within [] = omega arith
-  run_within (b ∷ bs) =
-      let more = run_within bs in
-      cases (belongs blank b) (λ e. rw e (omega arith)) (λ e. rw e (omega arith))
+module _ (p : ℕ → Bool) where
+  module _ (l : List ℕ) where
+    pub position_at : (i : ℕ) → position p l ≡ Some i → (i < length l) × (position_or_len p l ≡ i)
+    position_at i e =
+        let s = some_place (ltb (position_or_len p l) (length l)) (position_or_len p l) i e in
+        (omega (arith, ltb-true (position_or_len p l) (length l) s.0), s.1)
+
+    pub position_none : position p l ≡ None → position_or_len p l ≡ length l
+    position_none e =
+        let n = no_place (ltb (position_or_len p l) (length l)) (position_or_len p l) e in
+        omega (arith, prefix_len-le-length (λ x. not (p x)) l, ltb-false (position_or_len p l) (length l) n)
+
+    pub position_or : unwrap_or (position p l) (length l) ≡ position_or_len p l
+    position_or =
+        cases (ltb (position_or_len p l) (length l))
+        (λ e. rw e)
+        (λ e. rw e (omega (arith, prefix_len-le-length (λ x. not (p x)) l, ltb-false (position_or_len p l) (length l) e)))
 
 -- ---- fields
 
 -- the bytes of a field go to it one by one
-grow : (w l : List ℕ) → fields_from w l ≡ closed (w ++ take (run_of false l) l) (fields (drop (run_of false l) l))
-unfolding fields_from run_of
+grow : (w l : List ℕ) → fields_from w l ≡ closed (w ++ take (position_or_len is_blank l) l) (fields (drop (position_or_len is_blank l) l))
+unfolding fields_from
 grow w [] = rw append-nil
-grow w (b ∷ bs) = cases (is_blank b) (λ e. simp (e, append-nil)) (λ e. rw e (grow (w ++ b ∷ []) bs ∙ rw append_assoc))
+grow w (b ∷ bs) = cases (is_blank b) (λ e. simp (e, append-nil)) (λ e. rw (e, one-add) (grow (w ++ b ∷ []) bs ∙ rw append_assoc))
 
--- the bytes after the blanks
-abbrev rest : List ℕ → List ℕ
-rest l = drop (run_of true l) l
+-- a byte that is no blank, of which a field begins
+abbrev pub in_field : ℕ → Bool
+in_field b = not (is_blank b)
 
-fields_none : (l : List ℕ) → run_of false (rest l) ≡ 0 → fields l ≡ []
-unfolding fields_from run_of
-fields_none [] h = refl
-fields_none (b ∷ bs) h = cases (is_blank b) (λ e. rw e (fields_none bs (rw e at h))) (λ e. absurd (omega (arith, simp e at h)))
+blanks_only : (l : List ℕ) → position_or_len in_field l ≡ length l → fields l ≡ []
+unfolding fields_from
+blanks_only [] h = refl
+blanks_only (b ∷ bs) h = cases (is_blank b) (λ e. rw e (blanks_only bs (omega (arith, rw e at h)))) (λ e. absurd (omega (arith, rw e at h)))
 
-fields_some : (l : List ℕ) → 0 < run_of false (rest l) → fields l ≡ take (run_of false (rest l)) (rest l) ∷ fields (drop (run_of false (rest l)) (rest l))
-unfolding fields_from run_of
-fields_some [] h = absurd (omega arith)
-fields_some (b ∷ bs) h = cases (is_blank b) (λ e. rw e (fields_some bs (rw e at h))) (λ e. simp e (grow (b ∷ []) bs))
+abbrev later : List ℕ → List ℕ
+later l = drop (position_or_len in_field l) l
 
--- the place that two runs give, one of blanks and then one of other bytes
-pub found : (line : List ℕ) (at from end : ℕ) → at ≤ length line → from ≡ at + run_of true (drop at line) → end ≡ from + run_of false (drop from line)
-    → FieldAt line at (record { from = from; end = end })
-found line at from end h f e =
-    let same : rest (drop at line) ≡ drop from line = rw (drop-drop, ← f) in
-    let gap : run_of false (drop from line) ≡ end - from = omega (arith, e) in
-    let fits : from ≤ length line = omega (arith, f, run_within true (drop at line), length-drop at line) in
-    record {
-      from = omega arith;
-      end = omega arith;
-      within = omega (arith, run_within false (drop from line), length-drop from line);
-      none = λ z. fields_none (drop at line) (rw same (omega (arith, z, e)));
-      some = λ p. fields_some (drop at line) (rw same (omega (arith, p, e))) ∙ rw (same, drop-drop, ← e, gap);
-    }
+first_field : (l : List ℕ) → position_or_len in_field l < length l
+    → fields l ≡ take (position_or_len is_blank (later l)) (later l) ∷ fields (drop (position_or_len is_blank (later l)) (later l))
+unfolding fields_from
+first_field [] h = absurd (omega arith)
+first_field (b ∷ bs) h =
+    cases (is_blank b)
+    (λ e. rw (e, one-add) (first_field bs (omega (arith, rw e at h))))
+    (λ e. simp (e, one-add) (grow (b ∷ []) bs))
 
--- ---- the first byte
-pub begins_first : (l : List ℕ) (b : ℕ) → 0 < length l → eqb (get_or l 0 0) b ≡ begins b l
-begins_first [] b h = absurd (omega arith)
-begins_first (a ∷ l) b h = refl
+-- by the places that the code finds
+pub field_none : (l : List ℕ) → position in_field l ≡ None → fields l ≡ []
+field_none l e = blanks_only l (position_none in_field l e)
 
-pub begins_none : (l : List ℕ) (b : ℕ) → length l ≤ 0 → false ≡ begins b l
-begins_none [] b h = refl
-begins_none (a ∷ l) b h = absurd (omega arith)
+pub field_some : (l line front back : List ℕ) (i n : ℕ) → position in_field l ≡ Some i → line ≡ take (length l - i) (drop i l) → n ≡ position_or_len is_blank line
+    → front ≡ take n line → back ≡ drop n line → fields l ≡ front ∷ fields back
+field_some l line front back i n e r f p q =
+    let s = position_at in_field l i e in
+    let whole : line ≡ later l = r ∙ take_rest l i ∙ rw (← s.1) refl in
+    rw (p, q, f, whole) (first_field l (omega arith))
 
-pub begins_some : (l : List ℕ) (b : ℕ) → begins b l ≡ true → 0 < length l
-begins_some [] b e = absurd (false≢true e)
-begins_some (a ∷ l) b e = omega arith
+-- ---- a word
+
+same_suc : (m n : ℕ) → eqb (suc m) (suc n) ≡ eqb m n
+same_suc m n =
+    cases (eqb m n)
+    (λ e. rw e (eq-eqb (suc m) (suc n) (omega (arith, eqb-true m n e))))
+    (λ e. rw e (ne_eqb (suc m) (suc n) (λ z. omega (arith, z, eqb-false m n e))))
+
+exchanged : (x a b : Bool) → (x && (a && b)) ≡ (a && (x && b))
+exchanged true a b = refl
+exchanged false a b = rw and-false
+
+pub word_by : (want field : List ℕ) → pointwise eqb field want ≡ is_word want field
+unfolding starts
+word_by [] [] = refl
+word_by [] (b ∷ field) = rw (ne_eqb (suc (length field)) 0 (λ z. omega arith))
+word_by (a ∷ want) [] = rw (ne_eqb 0 (suc (length want)) (λ z. omega arith))
+word_by (a ∷ want) (b ∷ field) = rw (same_suc (length field) (length want), word_by want field) (exchanged (eqb b a) (eqb (length field) (length want)) (starts want field))
+
+pub word_same : (want field : List ℕ) (r : Bool) → r ≡ pointwise eqb field want → r ≡ is_word want field
+word_same want field r e = e ∙ word_by want field

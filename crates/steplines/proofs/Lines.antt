@@ -1,69 +1,34 @@
 -- Laws of a line's meaning, by its fields. Assumes nothing.
-use Rattle.arm.specs.Shown.{Reading}
 use Prim.Native.Nat.{ℕ, suc, ◌+◌, ◌≤◌, ◌<◌}
 use native.Mathlib.Nat.{zero-add, add-suc, suc-add}
 use native.Mathlib.Numerals.{add-one}
 use native.Mathlib.Omega.{arith}
-use mathlib.Core.Path.{◌≡◌, refl, sym, ap, ◌∙◌}
-use mathlib.Core.Bool.{Bool, true, false, cond, ◌&&◌, ◌||◌}
+use mathlib.Core.Path.{◌≡◌, refl, ap, ◌∙◌}
+use mathlib.Core.Bool.{Bool, true, false, cond}
 use mathlib.Core.List.{List, [], ◌∷◌, map}
 use borrow.Table.Steps.{cases}
-use lib.Dec.{eqb, ltb}
+use borrow.Author.Tests.{ne_eqb}
+use lib.Dec.{ltb}
 use lib.Ieee.{Float}
-use lib.ListN.{length, take, drop, get_or, drop_of_length-le, length-drop}
-use lib.Seq.{drop-cons, take_all, length-take-le}
+use lib.ListN.{length, get_or}
 use Rattle.settings.specs.declared.Settings.{Settings}
-use Rattle.settings.proofs.Laws.{both}
 use Rattle.settings.specs.Values.{with_setting, no_settings, set_all}
 use Rattle.runs.specs.declared.Step.TheVariants.{Clock}
 use Rattle.runs.specs.Letters.{letter_of}
-use Rattle.steplines.specs.declared.Meaning.{Meaning}
-use Rattle.steplines.specs.declared.Meaning.TheVariants.{Skip, Take, Wrong}
 use Rattle.steplines.specs.Fields.{fields, begins, is_word}
-use Rattle.steplines.specs.Numbers.{all_digits, is_number, number_of, whole_of, decimals_of, is_reading, angle_in, degrees_of}
-use Rattle.steplines.specs.StepLine.{clock_with, clock_of, step_with, step_of, settings_word, all_numbers, start_with, start_of, meaning_of}
-use Rattle.steplines.proofs.Numbers.{number_append, whole_take, decimals_drop}
+use Rattle.steplines.specs.Numbers.{is_number, number_of, is_reading, angle_in, degrees_of}
+use Rattle.steplines.specs.StepLine.{Meaning, Skip, Take, Wrong, clock_with, step_with, step_of, settings_word, all_numbers, start_with, start_of, meaning_of}
 
 -- ---- a clock step, with a point and without, with a minus and without
 
-pub whole_within : (l : List ℕ) → length (whole_of l) ≤ length l
-unfolding whole_of
-whole_within [] = omega arith
-whole_within (b ∷ l) = let more = whole_within l in cases (eqb b 46) (λ e. rw e (omega arith)) (λ e. rw e (omega arith))
-
--- the bytes before and after the point, w and d whether they are digits
-module _ (minus : Bool) (whole decimals : List ℕ) (w d : Bool) (ew : w ≡ all_digits whole) (ed : d ≡ all_digits decimals) where
-  abbrev form : Bool
-  form = (ltb 0 (length whole) || ltb 0 (length decimals)) && (w && d)
-
-  is_reading_law : form ≡ is_reading whole decimals
-  is_reading_law = rw (ew, ed) (number_append whole decimals)
-
-  pub clock_digits : form ≡ true → all_digits decimals ≡ true
-  clock_digits t = sym ed ∙ (both w d (both (ltb 0 (length whole) || ltb 0 (length decimals)) (w && d) t).1).1
-
-  pub clock_read_law : form ≡ true → (r : Reading) (x : Float) → r ≡ angle_in minus whole decimals → x ≡ degrees_of r → Take (Clock x) ≡ clock_with minus whole decimals
+module _ (minus : Bool) (whole decimals : List ℕ) where
+  pub clock_read_law : is_reading whole decimals ≡ true → (x : Float) → x ≡ degrees_of (angle_in minus whole decimals) → Take (Clock x) ≡ clock_with minus whole decimals
   unfolding clock_with
-  clock_read_law t r x er ex = rw (ex, er, sym is_reading_law ∙ t)
+  clock_read_law t x e = rw (e, t)
 
-  pub clock_wrong : form ≡ false → Wrong ≡ clock_with minus whole decimals
+  pub clock_wrong : is_reading whole decimals ≡ false → Wrong ≡ clock_with minus whole decimals
   unfolding clock_with
-  clock_wrong t = rw (sym is_reading_law ∙ t)
-
-module _ (minus : Bool) (l : List ℕ) (p : ℕ) (e : p ≡ length (whole_of l)) where
-  pub clock_point : clock_with minus (take p l) (drop (p + 1) l) ≡ clock_with minus (whole_of l) (decimals_of l)
-  clock_point = rw (e, add-one, whole_take l, decimals_drop l)
-
-  pub clock_whole : length l ≤ p → clock_with minus l (drop p l) ≡ clock_with minus (whole_of l) (decimals_of l)
-  clock_whole h =
-      rw (← whole_take l, ← decimals_drop l, ← e, take_all p l h, drop_of_length-le l {i = p} h, drop_of_length-le l {i = suc p} (omega arith))
-
-module _ (l : List ℕ) where
-  pub clock_minus : begins 45 l ≡ true → clock_with true (whole_of (drop 1 l)) (decimals_of (drop 1 l)) ≡ clock_of l
-  clock_minus e = rw e
-
-  pub clock_plain : begins 45 l ≡ false → clock_with false (whole_of l) (decimals_of l) ≡ clock_of l
-  clock_plain e = rw e
+  clock_wrong t = rw t
 
 -- ---- a step
 module _ (b : ℕ) (fs : List (List ℕ)) where
@@ -119,6 +84,20 @@ module _ (count : ℕ) (s : Settings) (fs : List (List ℕ)) where
     unfolding start_from
     start_wrong t = rw (e, t)
 
+-- one more than all values
+many_values : (n : ℕ) (s : Settings) → 13 < n → start_with n s ≡ Wrong
+unfolding start_with
+many_values n s h = rw (ne_eqb n 13 (λ z. omega arith), ne_eqb n 7 (λ z. omega arith))
+
+all_over : (s : Settings) (f : List ℕ) (fs : List (List ℕ)) → start_from 13 s (f ∷ fs) ≡ Wrong
+all_over s f fs =
+    start_all 13 s (f ∷ fs)
+    ∙ rw (many_values (13 + length (f ∷ fs)) (set_all 14 (map number_of (f ∷ fs)) s) (omega arith))
+    (cases (all_numbers (f ∷ fs)) (λ e. rw e) (λ e. rw e))
+
+pub start_over : (count : ℕ) (s : Settings) (fs : List (List ℕ)) (f : List ℕ) (gs : List (List ℕ)) → fs ≡ f ∷ gs → count ≡ 13 → start_from count s fs ≡ Wrong
+start_over count s fs f gs e h = rw (e, h) (all_over s f gs)
+
 -- ---- a line
 
 pub meaning_comment : (l : List ℕ) → begins 35 l ≡ true → Skip ≡ meaning_of l
@@ -144,9 +123,8 @@ module _ (l : List ℕ) (c : begins 35 l ≡ false) where
       unfolding meaning_of
       meaning_step w = rw (c, s, e, w)
 
--- a word has the bytes of its place; and a word of one byte
-pub word_length : (l : List ℕ) (i n : ℕ) → i + n ≤ length l → length (take n (drop i l)) ≡ n
-word_length l i n h = length-take-le n (drop i l) (omega (arith, length-drop i l))
-
-pub one_byte : (l : List ℕ) (i n : ℕ) → i < length l → n ≡ 1 → take n (drop i l) ≡ get_or l i 0 ∷ []
-one_byte l i n h e = rw (e, drop-cons l i 0 h)
+-- a word of one byte
+pub one_byte : (word : List ℕ) → 1 ≤ length word → length word < 2 → word ≡ get_or word 0 0 ∷ []
+one_byte [] h g = absurd (omega arith)
+one_byte (b ∷ []) h g = refl
+one_byte (b ∷ c ∷ word) h g = absurd (omega arith)

@@ -8,11 +8,12 @@ use mathlib.Core.Path.{◌≡◌, refl, sym, ap, ◌∙◌}
 use mathlib.Core.Bool.{Bool, true, false, cond, ◌&&◌, and-true, and-false}
 use mathlib.Core.List.{List, [], ◌∷◌, ◌++◌}
 use borrow.Table.Steps.{cases}
-use borrow.Author.Tests.{eqb-true, eqb-false, leb-true, leb-false, eq-eqb, ne_eqb, lt-leb}
+use borrow.Author.Tests.{leb-true, eqb-true, eqb-false, leb-false, eq-eqb, ne_eqb, lt-leb}
 use lib.Dec.{eqb, leb}
+use Rattle.std.specs.Prelude.{min, None}
 use lib.ListN.{length, get_or, drop}
 use Rattle.settings.proofs.Laws.{both, within_says}
-use Rattle.steplines.specs.Numbers.{is_digit, all_digits, value_from, value, smaller, largest, number_of, angle_of, angle_in}
+use Rattle.steplines.specs.Numbers.{is_digit, all_digits, value_from, value, largest, number_of, angle_of, angle_in}
 use Rattle.steplines.specs.Walk.{with_decimals, most_with, by_six}
 
 -- ---- the value of digits
@@ -39,7 +40,7 @@ value_add v (b ∷ l) =
     ∙ rw (pow-suc 10 (length l)) (ap (λ (n : ℕ). v * (10 ^ length l * 10) + n) (sym (value_cons b l ∙ value_add (b - 48) l)))
 
 value_below : (l : List ℕ) → all_digits l ≡ true → value l < 10 ^ length l
-unfolding all_digits value_from
+unfolding value_from
 value_below [] h = omega arith
 value_below (b ∷ l) h =
     let d = within_says 48 57 b (both (is_digit b) (all_digits l) h).0 in
@@ -77,7 +78,7 @@ spread (suc n) v (b ∷ l) =
 
 -- the later ones are less than one of the decimals before them
 later_below : (n : ℕ) (l : List ℕ) → all_digits l ≡ true → value (drop n l) * 10 ^ n < 10 ^ length l
-unfolding all_digits value_from
+unfolding value_from
 later_below zero l h = omega (arith, value_below l h)
 later_below (suc n) [] h = omega arith
 later_below (suc n) (b ∷ l) h =
@@ -126,11 +127,6 @@ module _ (d p x s : ℕ) (spreads : d * 1000000 ≡ x * p + s) (less : s < p) wh
       (λ f. rw (e, f) (ne_eqb (64 * d % p) 0 (λ z. omega (arith, z, remainder, left_some (eqb-false (x % 15625) 0 f))))))
       (λ e. rw e (ne_eqb (64 * d % p) 0 (λ z. omega (arith, z, remainder, eqb-false s 0 e))))
 
--- an angle that is taken is small
-pub six_small : (minus a : Bool) (q : ℕ) → (a && leb q (most_with minus)) ≡ true → q ≤ 5760
-six_small true a q t = omega (arith, leb-true q 0 (both a (leb q 0) t).1)
-six_small false a q t = leb-true q 5760 (both a (leb q 5760) t).1
-
 -- with a minus only 0 is taken, which a whole number of 64ths is only if d is
 none_given : (d p : ℕ) → d ≡ 0 → 64 * d / p ≡ 0
 none_given d p z = rw z (zero-div p)
@@ -173,20 +169,22 @@ six_above : (minus : Bool) (s x : ℕ) → 1000000000 ≤ x → by_six minus s x
 six_above false s x h = rw (lt-leb (x / 15625) 5760 (omega arith), and-false)
 six_above true s x h = rw (lt-leb (x / 15625) 0 (omega arith), and-false)
 
-cut_whole : (minus : Bool) (s w : ℕ) (l : List ℕ) → by_six minus s (with_decimals w l 6) ≡ by_six minus s (with_decimals (smaller w largest) l 6)
+cut_whole : (minus : Bool) (s w : ℕ) (l : List ℕ) → by_six minus s (with_decimals w l 6) ≡ by_six minus s (with_decimals (min w largest) l 6)
 cut_whole minus s w l =
     cases (leb w largest)
-    (λ e. rw e)
     (λ e.
-    rw e
-    (six_above minus s (with_decimals w l 6) (omega (arith, decimals_least w l, leb-false w largest e))
-    ∙ sym (six_above minus s (with_decimals largest l 6) (omega (arith, decimals_least largest l)))))
+    let same : w ≡ min w largest = omega (arith, leb-true w largest e) in
+    ap (λ (n : ℕ). by_six minus s (with_decimals n l 6)) same)
+    (λ e.
+    let large = leb-false w largest e in
+    six_above minus s (with_decimals w l 6) (omega (arith, decimals_least w l))
+    ∙ sym (six_above minus s (with_decimals (min w largest) l 6) (omega (arith, decimals_least (min w largest) l))))
 
-cut_left : (n : ℕ) → eqb (n * 1000000) 0 ≡ eqb (smaller n largest) 0
-cut_left zero = refl
-cut_left (suc n) =
-    ne_eqb (suc n * 1000000) 0 (λ z. omega arith)
-    ∙ sym (cases (leb (suc n) largest) (λ e. rw e (ne_eqb (suc n) 0 (λ z. omega arith))) (λ e. rw e))
+cut_left : (n : ℕ) → eqb (n * 1000000) 0 ≡ eqb (min n largest) 0
+cut_left n =
+    cases (eqb (min n largest) 0)
+    (λ e. rw e (eq-eqb (n * 1000000) 0 (omega (arith, eqb-true (min n largest) 0 e))))
+    (λ e. rw e (ne_eqb (n * 1000000) 0 (λ z. omega (arith, z, eqb-false (min n largest) 0 e))))
 
 -- the reading by six decimals
 pub reading_six : (minus : Bool) (whole decimals : List ℕ) → all_digits decimals ≡ true
@@ -197,4 +195,19 @@ reading_six minus whole decimals h =
     sym
     (angle_by minus (value (whole ++ decimals)) (length decimals) (r * 1000000) (with_decimals w decimals 6)
     (rw (value_append 0 whole decimals) (spread 6 w decimals)) (later_below 6 decimals h)
-    ∙ rw (cut_left r) (cut_whole minus (smaller r largest) w decimals))
+    ∙ rw (cut_left r) (cut_whole minus (min r largest) w decimals))
+
+-- what is no angle, as it is tested
+module _ (minus : Bool) (whole decimals : List ℕ) (h : all_digits decimals ≡ true) (s x : ℕ) (es : s ≡ number_of (drop 6 decimals))
+    (ex : x ≡ with_decimals (number_of whole) decimals 6) where
+  by_tests : by_six minus s x ≡ angle_in minus whole decimals
+  by_tests = rw (es, ex) (reading_six minus whole decimals h)
+
+  pub angle_beyond : (s ≡ 0 → ⊥) → None ≡ angle_in minus whole decimals
+  angle_beyond n = sym (rw (ne_eqb s 0 n) refl) ∙ by_tests
+
+  pub angle_uneven : eqb (x % 15625) 0 ≡ false → None ≡ angle_in minus whole decimals
+  angle_uneven e = sym (rw (e, and-false) refl) ∙ by_tests
+
+  pub angle_above : most_with minus < x / 15625 → None ≡ angle_in minus whole decimals
+  angle_above g = sym (rw (lt-leb (x / 15625) (most_with minus) g, and-false) refl) ∙ by_tests

@@ -1,7 +1,8 @@
 -- The numbers of a line: a whole number, and the arm's reading in decimal degrees. Neither has a limit of digits.
 -- Assumes nothing.
 use Rattle.arm.specs.Shown.{Reading}
-use Rattle.std.specs.Prelude.{ℕ, ◌+◌, ◌-◌, ◌*◌, ◌/◌, ◌%◌, ◌^◌, Bool, true, false, cond, not, ◌&&◌, ◌||◌, List, [], ◌∷◌, ◌++◌, eqb, leb, Float, length, drop, None, Some}
+use Rattle.std.specs.Prelude.{ℕ, min, ◌+◌, ◌-◌, ◌*◌, ◌/◌, ◌%◌, ◌^◌, Bool, false, cond, not, ◌&&◌, ◌||◌, List, [], ◌∷◌, ◌++◌, eqb, leb, Float, length, drop, None, Some}
+use Rattle.std.specs.List.{list_all}
 use Rattle.settings.specs.Settings.{within}
 use Rattle.arm.specs.Angle.{degrees}
 use Rattle.steplines.specs.Fields.{begins}
@@ -12,9 +13,8 @@ use Rattle.steplines.specs.Fields.{begins}
 abbrev pub is_digit : ℕ → Bool
 is_digit b = within 48 57 b
 
-unfoldable pub all_digits : List ℕ → Bool
-all_digits [] = true
-all_digits (b ∷ bs) = is_digit b && all_digits bs
+abbrev pub all_digits : List ℕ → Bool
+all_digits bytes = list_all is_digit bytes
 
 -- one or more digits and nothing else
 abbrev pub is_number : List ℕ → Bool
@@ -31,15 +31,12 @@ value digits = value_from 0 digits
 
 -- ---- a whole number: a train number or a setting
 
-abbrev pub smaller : ℕ → ℕ → ℕ
-smaller a b = cond (leb a b) a b
-
 -- every number above it counts as it: no train number and no setting may be that large
 abbrev pub largest : ℕ
 largest = 999999999
 
 abbrev pub number_of : List ℕ → ℕ
-number_of digits = smaller (value digits) largest
+number_of digits = min (value digits) largest
 
 -- ---- a reading: an optional minus, digits, and optionally a point and digits
 

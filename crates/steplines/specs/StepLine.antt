@@ -1,17 +1,41 @@
 -- What a line of the input of `gate bench` means: the word `settings` and seven or thirteen whole numbers, or a step, which is a letter of the record
 -- (A, B, E, F, O, L with a train number, T with the arm's reading in degrees). Empty lines and lines that begin with # mean nothing; every other
--- line is wrong (document 01's refusal 15). Every line has one meaning. Assumes nothing.
-use Rattle.std.specs.Prelude.{ℕ, Bool, true, cond, ◌&&◌, List, [], ◌∷◌, map, eqb, ltb, length, None, Some, Option}
+-- line is wrong, refused 15. Every line has one meaning. Assumes nothing.
+use Rattle.std.specs.Prelude.{ℕ, Bool, true, cond, ◌&&◌, List, [], ◌∷◌, map, eqb, ltb, length, Option, Some, None, Result, Ok, Err}
 use Rattle.settings.specs.declared.Settings.{Settings}
 use Rattle.settings.specs.Values.{settings_of, kinds_alike}
+use Rattle.runs.specs.declared.Step.{Step}
 use Rattle.runs.specs.declared.Step.TheVariants as step
 use Rattle.runs.specs.declared.Letter.{Letter}
 use Rattle.runs.specs.declared.Letter.TheVariants as letter
 use Rattle.runs.specs.Letters.{letter_of, event_step}
-use Rattle.steplines.specs.declared.Meaning.{Meaning}
-use Rattle.steplines.specs.declared.Meaning.TheVariants.{Skip, Start, Take, Wrong}
+use Rattle.steplines.specs.declared.NoMeaning.{NoMeaning}
+use Rattle.steplines.specs.declared.Typed.{Typed}
+use Rattle.steplines.specs.declared.Typed.TheVariants as typed
 use Rattle.steplines.specs.Fields.{fields, begins, is_word}
 use Rattle.steplines.specs.Numbers.{is_number, number_of, has_minus, unsigned, whole_of, decimals_of, is_reading, angle_in, degrees_of}
+
+-- settings, a step, nothing, or wrong
+pub data Meaning : Type 0 where
+  Skip : Meaning
+  Start : Settings → Meaning
+  Take : Step → Meaning
+  Wrong : Meaning
+
+-- the meaning that the code's answer says: of a line, of a line that must be a step, and of one that must be settings
+abbrev pub meant : Result Typed NoMeaning → Meaning
+meant (Ok typed.Skip) = Skip
+meant (Ok (typed.Start s)) = Start s
+meant (Ok (typed.Take x)) = Take x
+meant (Err e) = Wrong
+
+abbrev pub taken : Option Step → Meaning
+taken (Some x) = Take x
+taken None = Wrong
+
+abbrev pub started : Option Settings → Meaning
+started (Some s) = Start s
+started None = Wrong
 
 -- ---- a step
 

@@ -1,29 +1,29 @@
--- What the code finds on its way through a line: where a field stands, and a number with the decimals that decide an angle. No meaning of a line rests
+-- What the code finds on its way through a line: the fields that are left, and a number with the decimals that decide an angle. No meaning of a line rests
 -- on it. Assumes nothing.
 use Rattle.arm.specs.Shown.{Reading}
-use Rattle.std.specs.Prelude.{ℕ, zero, suc, ◌+◌, ◌-◌, ◌*◌, ◌/◌, ◌%◌, ◌≤◌, ◌<◌, ◌≡◌, Bool, true, false, cond, not, ◌&&◌, List, [], ◌∷◌, eqb, leb, length, take, drop, get_or, None, Some}
-use Rattle.steplines.specs.declared.Field.{Field}
+use Rattle.std.specs.Prelude.{ℕ, min, zero, suc, ◌+◌, ◌-◌, ◌*◌, ◌/◌, ◌%◌, Bool, true, false, cond, not, ◌&&◌, List, eqb, leb, Option, Some, None, get_or}
+use Rattle.steplines.specs.declared.field.Fields.{Fields}
 use Rattle.steplines.specs.Fields.{is_blank, fields}
+use Rattle.steplines.specs.Numbers.{is_number, largest, number_of}
 
--- ---- where a field stands
+-- ---- fields
 
 -- a byte of a run: of blanks, or of bytes that are none
 abbrev pub belongs : Bool → ℕ → Bool
 belongs true b = is_blank b
 belongs false b = not (is_blank b)
 
--- how many bytes the run at the start of the bytes has
-unfoldable pub run_of : Bool → List ℕ → ℕ
-run_of blank [] = 0
-run_of blank (b ∷ bs) = cond (belongs blank b) (suc (run_of blank bs)) 0
+abbrev pub fields_left : Fields → List (List ℕ)
+fields_left f = fields f.rest.now
 
--- f is the place of the first field of a line from `at` on; one without bytes where there is none
-pub record FieldAt (line : List ℕ) (at : ℕ) (f : Field) : Type 0 where
-  pub from : at ≤ f.from
-  pub end : f.from ≤ f.end
-  pub within : f.end ≤ length line
-  pub none : f.from ≡ f.end → fields (drop at line) ≡ []
-  pub some : f.from < f.end → fields (drop at line) ≡ take (f.end - f.from) (drop f.from line) ∷ fields (drop f.end line)
+-- ---- a whole number
+
+-- n with the digit b after it
+abbrev pub with_digit : ℕ → ℕ → ℕ
+with_digit n b = min (n * 10 + (b - 48)) largest
+
+abbrev pub number_in : List ℕ → Option ℕ
+number_in field = cond (is_number field) (Some (number_of field)) None
 
 -- ---- a reading
 

@@ -1,22 +1,13 @@
 -- `steplines::step_of` meets its contract. Assumes nothing.
-use native.Mathlib.Omega.{arith}
-use mathlib.Core.Path.{◌∙◌}
+use Rattle.std.proofs.Common.{◌∙◌}
 use Rattle.steplines.proofs.Lines.{step_none, step_one, step_more}
 use Rattle.steplines.proofs.step_of.Goals as goal
 
-pub returns-then-from-end : goal.returns-then-from-end
-returns-then-from-end c = let f = c.field_at-one in step_none _ _ (f.ensures.none c.if-from-end.true)
+pub returns-in_err-field : goal.returns-in_err-field
+returns-in_err-field c = rw c.from_residual.ensures (step_none _ _ c.in_err-field.ensures.steps.0)
 
-pub returns-then-two : goal.returns-then-two
-returns-then-two c =
-    let one = c.field_at-one in
-    let two = c.field_at-two in
-    let p = one.ensures.some (omega (arith, one.ensures.end, c.if-from-end.false)) in
-    c.step_with.ensures ∙ step_one _ _ _ _ p (two.ensures.none c.if-two.true)
+pub returns-in-None : goal.returns-in-None
+returns-in-None c = c.step_with.ensures ∙ step_one _ _ _ _ c.in_ok-field.ensures.steps c.in-None.ensures.steps.0
 
-pub returns-else-two : goal.returns-else-two
-returns-else-two c =
-    let one = c.field_at-one in
-    let two = c.field_at-two in
-    let p = one.ensures.some (omega (arith, one.ensures.end, c.if-from-end.false)) in
-    step_more _ _ _ _ p _ _ (two.ensures.some (omega (arith, two.ensures.end, c.if-two.false)))
+pub returns-in-Some : goal.returns-in-Some
+returns-in-Some c = step_more _ _ _ _ c.in_ok-field.ensures.steps _ _ c.in-Some.ensures.steps
