@@ -13,10 +13,10 @@ use Rattle.arm.specs.declared.Command.TheVariants.{Up, Down}
 use Rattle.trains.specs.declared.Standing.{Standing}
 use Rattle.trains.specs.declared.Standing.TheVariants.{Away, Coming, Inside}
 use Rattle.trains.specs.declared.Entry.{Entry}
-use Rattle.trains.specs.declared.First.TheVariants.{Nobody, Train}
+use Rattle.std.specs.Prelude.{Some, None}
 use Rattle.trains.specs.Trains.{since}
 use Rattle.trains.specs.Table.{away_entry}
-use Rattle.trains.specs.First.{First, train_of}
+use Rattle.trains.specs.First.{First, due, train_of}
 use Rattle.cabinet.specs.declared.Cabinet.{Cabinet}
 use Rattle.bench.specs.declared.Bench.{Bench}
 use Rattle.stepwise.specs.Words.{command_from, command_number, kind_from, kind_as, standing_from, standing_number, entry_from, entry_in, entry_words, entries_from, entries_words, first_from, first_in, first_number, instant_of, first_words, settings_from, cabinet_from, cabinet_words, head_from, bench_from, cabinet_in, arm_words, bench_words}
@@ -45,8 +45,8 @@ instant_back : (t : ℕ) → t % 4294967296 + 4294967296 * (t / 4294967296) ≡ 
 instant_back t = omega (arith, div-add-mod t 4294967296)
 
 first_back : (f : First) → first_from (first_number f) (train_of f) (instant_of f % 4294967296) (instant_of f / 4294967296) ≡ f
-first_back Nobody = refl
-first_back (Train n t) = ap (Train n) (instant_back t)
+first_back None = refl
+first_back (Some a) = ap (λ t. Some (due a.train t)) (instant_back a.instant)
 
 -- four words that are these
 module _ {a b c d x y z u : ℕ} (p : a ≡ x) (q : b ≡ y) (r : c ≡ z) (s : d ≡ u) where

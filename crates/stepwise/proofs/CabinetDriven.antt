@@ -12,7 +12,7 @@ use Rattle.settings.specs.Refusal.{unless}
 use Rattle.settings.specs.Settings.{settings_refusal}
 use Rattle.settings.proofs.Laws.{unless_has}
 use Rattle.trains.specs.declared.Entry.{Entry}
-use Rattle.trains.specs.declared.Question.TheVariants.{Due}
+use Rattle.trains.specs.declared.Question.TheVariants as question
 use Rattle.trains.specs.First.{First, rest_of}
 use Rattle.trains.specs.Table.{away_entry, place_for, put, no_place, standing_of}
 use Rattle.trains.proofs.Laws.{train_says}
@@ -86,7 +86,7 @@ module _ (c : Cabinet) (h : Holdable c.table) where
   unfolding approached left clocked
   hears_holdable (approaching k n) =
       train_holdable _ n _ _ (λ ok. let t = train_says n (approach_says n (standing_of c.table n) (no_place c.table n) ok).0 in omega arith)
-  hears_holdable (leaving n) = train_holdable (leave_refusal n (standing_of c.table n)) n away_entry (rest_of c.settings Due c.soonest n c.table) (λ ok. omega arith)
+  hears_holdable (leaving n) = train_holdable (leave_refusal n (standing_of c.table n)) n away_entry (rest_of c.settings question.Due c.soonest n c.table) (λ ok. omega arith)
   hears_holdable ticking = h
 
 -- ---- every list of calls

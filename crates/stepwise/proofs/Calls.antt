@@ -12,6 +12,7 @@ use Rattle.lines.specs.Bytes.{splice}
 use Rattle.lines.proofs.Splices.{splice_one}
 use Rattle.settings.specs.declared.Kind.{Kind}
 use Rattle.settings.specs.declared.Settings.{Settings}
+use Rattle.settings.specs.Refusal as verdicts
 use Rattle.settings.specs.Settings.{settings_refusal, verdict_of, verdict}
 use Rattle.settings.proofs.Laws.{refuse_none}
 use Rattle.cabinet.specs.declared.Order.{Order}
@@ -19,8 +20,6 @@ use Rattle.cabinet.specs.declared.Order.TheVariants as order
 use Rattle.cabinet.specs.declared.Control.{Control}
 use Rattle.cabinet.specs.Cabinet.{Taken, Refused, Answer, number_of, order_of, start_answer}
 use Rattle.runs.specs.Run.{or_else, or_full}
-use Rattle.stepwise.specs.declared.Named.{Named}
-use Rattle.stepwise.specs.declared.Named.TheVariants.{As, Nothing}
 use Rattle.stepwise.specs.Calls.{Called, called, packed_answer, answered, lent, started_by, put_clock, put_control, of_kind, or_no_step}
 use Rattle.stepwise.proofs.Words.{all_spliced}
 
@@ -68,47 +67,43 @@ module _ (ws : List ℕ) (o : Option Order) (w : Control) where
 
 -- ---- an approach whose letter names a kind, and one whose letter names none
 
-module _ {X : Type 0} (named : Named) (approach : Kind → X) (ws : List ℕ) (gives : X → Called) where
-  pub named_kind : (k : Kind) → named ≡ As k → or_no_step (of_kind named approach) ws gives ≡ gives (approach k)
+module _ {X : Type 0} (named : Option Kind) (approach : Kind → X) (ws : List ℕ) (gives : X → Called) where
+  pub named_kind : (k : Kind) → named ≡ Some k → or_no_step (of_kind named approach) ws gives ≡ gives (approach k)
   named_kind k e = rw e
 
-  pub named_none : named ≡ Nothing → or_no_step (of_kind named approach) ws gives ≡ called 15 ws
+  pub named_none : named ≡ None → or_no_step (of_kind named approach) ws gives ≡ called 15 ws
   named_none e = rw e
 
 -- ---- a start
 
--- its number is the settings' own
-pub start_number : (s : Settings) → number_of (start_answer (verdict s)) ≡ settings_refusal s
-unfolding verdict
-start_number s = go (settings_refusal s)
-  where
-    go : (k : ℕ) → number_of (start_answer (verdict_of k)) ≡ k
-    go zero = refl
-    go (suc k) = refl
+-- refused by the settings' own number, on words of the wrong length, and taken: the words are to be new
+module _ (many : ℕ) (ws : List ℕ) (s : Settings) (new : List ℕ) where
+  abbrev begun : ℕ → Called
+  begun k = started_by (or_full k (eqb (length ws) many)) new ws
 
--- where none refuses, the words are there
-pub full_none : (own words many : ℕ) → or_full own (eqb words many) ≡ 0 → words ≡ many
-full_none zero words many e = eqb-true words many (not-false _ (refuse_none (not (eqb words many)) 13 e).0)
-full_none (suc k) words many e = absurd (let z : suc k ≡ 0 = e in omega arith)
-
--- a start under the settings s, which are t, whose words are to be new
-module _ (many : ℕ) (ws : List ℕ) (s t : Settings) (es : s ≡ t) (a : Answer) (ea : a ≡ start_answer (verdict s)) (own k : ℕ) (eo : own ≡ number_of a)
-    (ek : k ≡ or_full own (eqb (length ws) many)) (new : List ℕ) where
-  whole : k ≡ or_full (settings_refusal t) (eqb (length ws) many)
-  whole = ek ∙ ap (λ (j : ℕ). or_full j (eqb (length ws) many)) (eo ∙ ap number_of ea ∙ start_number s ∙ ap settings_refusal es)
-
-  pub start_taken : (after : List ℕ) → k ≡ 0 → length new ≡ many → after ≡ splice ws 0 new →
-      called 0 after ≡ started_by (or_full (settings_refusal t) (eqb (length ws) many)) new ws
-  start_taken after z l e =
-      let words : after ≡ new = e ∙ all_spliced ws new (full_none own (length ws) many (sym ek ∙ z) ∙ sym l) in
-      rw (← whole, z, words)
-
-  pub start_refused : (k ≡ 0 → ⊥) → called k ws ≡ started_by (or_full (settings_refusal t) (eqb (length ws) many)) new ws
-  start_refused n = rw (← whole) (go k n)
+  pub start_refused : (k : ℕ) → verdicts.Refused k ≡ verdict s → called k ws ≡ begun (settings_refusal s)
+  unfolding verdict
+  start_refused k e = go (settings_refusal s) e
     where
-      go : (j : ℕ) → (j ≡ 0 → ⊥) → called j ws ≡ started_by j new ws
-      go zero f = absurd (f refl)
-      go (suc j) f = refl
+      go : (j : ℕ) → verdicts.Refused k ≡ verdict_of j → called k ws ≡ begun j
+      go zero p = absurd (cc)
+      go (suc j) p = let same : k ≡ suc j = cc in ap (λ (n : ℕ). called n ws) same
+
+  pub start_short : verdicts.Taken ≡ verdict s → (length ws ≡ many → ⊥) → called 14 ws ≡ begun (settings_refusal s)
+  unfolding verdict
+  start_short e n = go (settings_refusal s) e
+    where
+      go : (j : ℕ) → verdicts.Taken ≡ verdict_of j → called 14 ws ≡ begun j
+      go zero p = rw (ne_eqb (length ws) many n)
+      go (suc j) p = absurd (cc)
+
+  pub start_taken : verdicts.Taken ≡ verdict s → length ws ≡ many → length new ≡ many → called 0 (splice ws 0 new) ≡ begun (settings_refusal s)
+  unfolding verdict
+  start_taken e l m = go (settings_refusal s) e
+    where
+      go : (j : ℕ) → verdicts.Taken ≡ verdict_of j → called 0 (splice ws 0 new) ≡ begun j
+      go zero p = rw (eq-eqb (length ws) many l) (ap (called 0) (all_spliced ws new (l ∙ sym m)))
+      go (suc j) p = absurd (cc)
 
 -- under settings that meet no refusal, on words of the right length
 pub start_accepted : (many : ℕ) (ws : List ℕ) (s : Settings) (new : List ℕ) → settings_refusal s ≡ 0 → length ws ≡ many →

@@ -1,9 +1,9 @@
 -- Lists of calls, for whatever a call does as a step of a state in words; and tables that words can hold. Assumes nothing.
+use Rattle.std.specs.Prelude.{Option, None, Some}
 use Prim.Native.Nat.{ℕ, zero, suc, ◌<◌}
 use native.Mathlib.Omega.{arith}
 use mathlib.Core.Path.{◌≡◌, refl, ap, ◌∙◌}
 use mathlib.Core.List.{List, [], ◌∷◌}
-use mathlib.Core.Option.{Option, none, some}
 use lib.ListN.{get_or, set, length-set}
 use Rattle.trains.specs.declared.Entry.{Entry}
 use Rattle.trains.specs.declared.Table.{Table}
@@ -42,10 +42,10 @@ module _ {S C X : Type 0} (said : C → Option X) (takes : List ℕ → X → Ca
 
   -- the calls from one on
   module _ (s : S) (g : Good s) (c : C) where
-    call_step : (x : X) → said c ≡ some x → call (words s) c ≡ called (packed_answer (answer s x)) (words (next s x))
+    call_step : (x : X) → said c ≡ Some x → call (words s) c ≡ called (packed_answer (answer s x)) (words (next s x))
     call_step x e = rw e (step s g x)
 
-    call_none : said c ≡ none → call (words s) c ≡ called 15 (words s)
+    call_none : said c ≡ None → call (words s) c ≡ called 15 (words s)
     call_none e = rw e
 
   pub list_good : (cs : List C) (s : S) → Good s → Good (state_after next s (steps_named said cs))
@@ -54,8 +54,8 @@ module _ {S C X : Type 0} (said : C → Option X) (takes : List ℕ → X → Ca
   list_good (c ∷ cs) s g = go (said c) (λ t k. list_good cs t k)
     where
       go : (o : Option X) → ((t : S) → Good t → Good (state_after next t (steps_named said cs))) → Good (state_after next s (with_named o (steps_named said cs)))
-      go (some x) rest = rest (next s x) (stays s g x)
-      go none rest = rest s g
+      go (Some x) rest = rest (next s x) (stays s g x)
+      go None rest = rest s g
 
   pub list_words : (cs : List C) (s : S) → Good s → words_after call (words s) cs ≡ words (state_after next s (steps_named said cs))
   unfolding state_after steps_named
@@ -64,8 +64,8 @@ module _ {S C X : Type 0} (said : C → Option X) (takes : List ℕ → X → Ca
     where
       go : (o : Option X) → said c ≡ o → ((t : S) → Good t → words_after call (words t) cs ≡ words (state_after next t (steps_named said cs))) →
           words_after call (call (words s) c).words cs ≡ words (state_after next s (with_named o (steps_named said cs)))
-      go (some x) e rest = ap (λ (u : Called). words_after call u.words cs) (call_step s g c x e) ∙ rest (next s x) (stays s g x)
-      go none e rest = ap (λ (u : Called). words_after call u.words cs) (call_none s g c e) ∙ rest s g
+      go (Some x) e rest = ap (λ (u : Called). words_after call u.words cs) (call_step s g c x e) ∙ rest (next s x) (stays s g x)
+      go None e rest = ap (λ (u : Called). words_after call u.words cs) (call_none s g c e) ∙ rest s g
 
   pub list_answers : (cs : List C) (s : S) → Good s → answers_after call (words s) cs ≡ answers_beside said cs (answers_to next answer s (steps_named said cs))
   unfolding answers_to steps_named answers_beside
@@ -75,7 +75,7 @@ module _ {S C X : Type 0} (said : C → Option X) (takes : List ℕ → X → Ca
       go : (o : Option X) → said c ≡ o → ((t : S) → Good t → answers_after call (words t) cs ≡ answers_beside said cs (answers_to next answer t (steps_named said cs))) →
           (call (words s) c).answer ∷ answers_after call (call (words s) c).words cs
           ≡ beside_named o (answers_to next answer s (with_named o (steps_named said cs))) (answers_beside said cs)
-      go (some x) e rest =
+      go (Some x) e rest =
           ap (λ (u : Called). u.answer ∷ answers_after call u.words cs) (call_step s g c x e)
           ∙ ap (λ (l : List ℕ). packed_answer (answer s x) ∷ l) (rest (next s x) (stays s g x))
-      go none e rest = ap (λ (u : Called). u.answer ∷ answers_after call u.words cs) (call_none s g c e) ∙ ap (λ (l : List ℕ). 15 ∷ l) (rest s g)
+      go None e rest = ap (λ (u : Called). u.answer ∷ answers_after call u.words cs) (call_none s g c e) ∙ ap (λ (l : List ℕ). 15 ∷ l) (rest s g)

@@ -1,12 +1,11 @@
 -- A packed answer is taken apart again, and a call whose answer has a refusal number keeps every word. Assumes nothing.
-use Rattle.std.specs.Prelude.{None, Some}
+use Rattle.std.specs.Prelude.{Option, None, Some}
 use Prim.Native.Nat.{ℕ, ◌+◌, ◌*◌, ◌/◌, ◌%◌, ◌<◌}
 use native.Mathlib.Nat.{mod-eq_of_lt, div-eq_of_lt, add-mul-div_left, add-mul-mod_self_left}
 use native.Mathlib.Omega.{arith}
 use mathlib.Core.Path.{◌≡◌, refl, ap, ◌∙◌}
 use mathlib.Core.Bool.{Bool, true, false, cond}
 use mathlib.Core.List.{List}
-use mathlib.Core.Option.{Option, none, some}
 use lib.Dec.{eqb}
 use lib.ListN.{length}
 use Rattle.arm.specs.Shown as arm
@@ -81,8 +80,8 @@ lent_keeps many ws own gives k = go (eqb (length ws) many)
     go false = λ f. refl
 
 named_keeps : {X : Type 0} (o : Option X) (ws : List ℕ) (gives : X → Called) → ((x : X) → Kept ws (gives x)) → Kept ws (or_no_step o ws gives)
-named_keeps (some x) ws gives k = k x
-named_keeps none ws gives k = λ f. refl
+named_keeps (Some x) ws gives k = k x
+named_keeps None ws gives k = λ f. refl
 
 module _ (ws : List ℕ) where
   -- a train's step, and a clock step

@@ -69,20 +69,6 @@ gate_there ws old h g k after l many eh eg ek e =
     shown_there 1 ws old _ _ l many
     (ap₂ (λ (m : ℕ) (x : List Float). showed (256 * m) x) ek e ∙ ap (λ (x : Gate). showed (256 * gate_number x) (gate_angle x old)) gate)
 
--- each gate's angle
-module _ (old : List Float) (g : Gate) where
-  pub angle_up : g ≡ Up → old ≡ gate_angle g old
-  angle_up e = rw e
-
-  pub angle_down : g ≡ Down → old ≡ gate_angle g old
-  angle_down e = rw e
-
-  pub angle_falling : (x : Float) → 1 ≤ length old → g ≡ Falling x → set old 0 x ≡ gate_angle g old
-  angle_falling x h e = rw e (one_over old x h)
-
-  pub angle_rising : (x : Float) → 1 ≤ length old → g ≡ Rising x → set old 0 x ≡ gate_angle g old
-  angle_rising x h e = rw e (one_over old x h)
-
 -- ---- words that are read as a bench show what it shows
 
 module _ (ws : List ℕ) (b : Bench) (l : length ws ≡ 411) (is : bench_from ws ≡ b) (old : List Float) where

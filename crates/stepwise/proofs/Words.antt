@@ -4,38 +4,16 @@ use native.Mathlib.Numerals.{add-one}
 use native.Mathlib.Omega.{arith}
 use mathlib.Core.Path.{◌≡◌, refl, ap, ◌∙◌}
 use mathlib.Core.List.{List, [], ◌∷◌, ◌++◌, append-nil, append_assoc}
-use lib.ListN.{length, take, get_or, set, length-append, drop_of_length-le}
+use lib.ListN.{length, take, get_or, length-append, drop_of_length-le}
 use lib.Seq.{take-suc, take-length, length-take-le}
 use Rattle.lines.specs.Bytes.{splice}
-use Rattle.lines.proofs.Splices.{splice_none, splice_one, splice_then, store_then, length_splice}
+use Rattle.lines.proofs.Splices.{splice_none, splice_then, length_splice}
 use Rattle.trains.specs.declared.Entry.{Entry}
 use Rattle.trains.specs.Table.{away_entry}
 use Rattle.settings.specs.Values.{thirteen}
 use Rattle.cabinet.specs.declared.Cabinet.{Cabinet}
 use Rattle.bench.specs.declared.Bench.{Bench}
 use Rattle.stepwise.specs.Words.{entry_words, entries_from, entries_words, first_words, ticks_words, control_words, cabinet_words, cabinet_in, arm_words, bench_words}
-
--- ---- words stored one after another
-
-pub two_spliced : (d : List ℕ) (at a b : ℕ) → at + 2 ≤ length d → set (set d at a) (at + 1) b ≡ splice d at (a ∷ b ∷ [])
-two_spliced d at a b h = store_then d at (a ∷ []) (at + 1) (splice_one d at a (omega arith)) refl b (omega arith)
-
-pub four_spliced : (d : List ℕ) (at a b c e : ℕ) → at + 4 ≤ length d →
-    set (set (set (set d at a) (at + 1) b) (at + 2) c) (at + 3) e ≡ splice d at (a ∷ b ∷ c ∷ e ∷ [])
-four_spliced d at a b c e h =
-    let two = two_spliced d at a b (omega arith) in
-    let three = store_then d at (a ∷ b ∷ []) (at + 2) two refl c (omega arith) in
-    store_then d at (a ∷ b ∷ c ∷ []) (at + 3) three refl e (omega arith)
-
--- the thirteen settings with D and U, as they are written
-pub settings_spliced : (d p q r s : List ℕ) (a b c e f g h i j k l m n x y : ℕ) → 15 ≤ length d →
-    p ≡ splice d 0 (a ∷ b ∷ c ∷ e ∷ []) → q ≡ splice p 4 (f ∷ g ∷ h ∷ i ∷ []) → r ≡ splice q 8 (j ∷ k ∷ l ∷ m ∷ []) → s ≡ splice r 12 (n ∷ x ∷ []) →
-    set s 14 y ≡ splice d 0 (a ∷ b ∷ c ∷ e ∷ f ∷ g ∷ h ∷ i ∷ j ∷ k ∷ l ∷ m ∷ n ∷ x ∷ y ∷ [])
-settings_spliced d p q r s a b c e f g h i j k l m n x y long ep eq er es =
-    let two = eq ∙ splice_then d 0 (a ∷ b ∷ c ∷ e ∷ []) 4 ep refl (f ∷ g ∷ h ∷ i ∷ []) (omega arith) in
-    let three = er ∙ splice_then d 0 (a ∷ b ∷ c ∷ e ∷ f ∷ g ∷ h ∷ i ∷ []) 8 two refl (j ∷ k ∷ l ∷ m ∷ []) (omega arith) in
-    let four = es ∙ splice_then d 0 (a ∷ b ∷ c ∷ e ∷ f ∷ g ∷ h ∷ i ∷ j ∷ k ∷ l ∷ m ∷ []) 12 three refl (n ∷ x ∷ []) (omega arith) in
-    store_then d 0 (a ∷ b ∷ c ∷ e ∷ f ∷ g ∷ h ∷ i ∷ j ∷ k ∷ l ∷ m ∷ n ∷ x ∷ []) 14 four refl y (omega arith)
 
 -- any words are read as a table of 96 entries
 pub entries_many : (ws : List ℕ) (i many : ℕ) → length (entries_from ws i many) ≡ many

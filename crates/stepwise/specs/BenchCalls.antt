@@ -1,6 +1,5 @@
 -- The calls on a bench in words: its start and its steps (document 01, "Lists of steps"). Assumes nothing.
-use Rattle.std.specs.Prelude.{ℕ, List, eqb, Float, length}
-use Rattle.std.proofs.Math.Option.{Option, some}
+use Rattle.std.specs.Prelude.{Option, Some, ℕ, List, eqb, Float, length}
 use Rattle.settings.specs.declared.Settings.{Settings}
 use Rattle.settings.specs.Settings.{settings_refusal}
 use Rattle.arm.specs.Shown as arm
@@ -58,9 +57,9 @@ pub data BenchCall : Type 0 where
 -- the step that a call names; none where the letter of an approach names no kind
 abbrev pub step_in : BenchCall → Option Step
 step_in (approaching letter n) = of_kind (kind_named (letter_of letter)) (λ k. step.Approach k n)
-step_in (occupying n) = some (step.Occupy n)
-step_in (leaving n) = some (step.Leave n)
-step_in (ticking r) = some (step.Clock r)
+step_in (occupying n) = Some (step.Occupy n)
+step_in (leaving n) = Some (step.Leave n)
+step_in (ticking r) = Some (step.Clock r)
 
 -- what a call answers and leaves
 unfoldable pub bench_called : List ℕ → BenchCall → Called

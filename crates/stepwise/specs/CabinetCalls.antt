@@ -1,6 +1,5 @@
 -- The calls on a cabinet in words: its start and its steps (document 01, "Cabinet"). Assumes nothing.
-use Rattle.std.specs.Prelude.{ℕ, List, eqb, length}
-use Rattle.std.proofs.Math.Option.{Option, some}
+use Rattle.std.specs.Prelude.{Option, Some, ℕ, List, eqb, length}
 use Rattle.settings.specs.declared.Kind.{Kind}
 use Rattle.settings.specs.declared.Settings.{Settings}
 use Rattle.settings.specs.Settings.{settings_refusal}
@@ -59,8 +58,8 @@ pub data CabinetCall : Type 0 where
 -- what the cabinet hears of a call; nothing of an approach whose letter names no kind
 abbrev pub heard_in : CabinetCall → Option Heard
 heard_in (approaching letter n) = of_kind (kind_named (letter_of letter)) (λ k. heard.approaching k n)
-heard_in (leaving n) = some (heard.leaving n)
-heard_in ticking = some heard.ticking
+heard_in (leaving n) = Some (heard.leaving n)
+heard_in ticking = Some heard.ticking
 
 -- what a call answers and leaves
 unfoldable pub cabinet_called : List ℕ → CabinetCall → Called

@@ -1,8 +1,7 @@
 -- One call a step, on words that the caller lends: how it answers, and what words it changes.
 -- A call whose words are not as many as they should be is refused, 14 last, after the number that is found without them; an approach whose letter is not the
 -- record's A, B, E or F is no step, and is refused before all else, 15. A refusal keeps every word. Assumes nothing.
-use Rattle.std.specs.Prelude.{ℕ, ◌+◌, ◌*◌, ◌/◌, ◌%◌, ◌<◌, ◌≡◌, Bool, cond, not, List, [], ◌∷◌, eqb, length, get_or, Some, None}
-use Rattle.std.proofs.Math.Option.{Option, none, some}
+use Rattle.std.specs.Prelude.{ℕ, ◌+◌, ◌*◌, ◌/◌, ◌%◌, ◌<◌, ◌≡◌, cond, not, List, [], ◌∷◌, eqb, length, get_or, Option, Some, None}
 use Rattle.lines.specs.Bytes.{splice}
 use Rattle.settings.specs.declared.Kind.{Kind}
 use Rattle.settings.specs.declared.Settings.{Settings}
@@ -13,7 +12,7 @@ use Rattle.trains.specs.declared.Entry.{Entry}
 use Rattle.trains.specs.First.{First}
 use Rattle.trains.specs.declared.Table.{Table}
 use Rattle.trains.specs.Trains.{is_train}
-use Rattle.trains.specs.Table.{away_entry, is_of, is_free}
+use Rattle.trains.specs.Table.{away_entry}
 use Rattle.cabinet.specs.declared.Order.{Order}
 use Rattle.cabinet.specs.declared.Order.TheVariants as order
 use Rattle.cabinet.specs.declared.Control.{Control}
@@ -25,10 +24,6 @@ use Rattle.bench.specs.Bench.{head_ticked}
 use Rattle.runs.specs.declared.Letter.{Letter}
 use Rattle.runs.specs.declared.Letter.TheVariants as letter
 use Rattle.runs.specs.Run.{answer_byte, answer_train, or_else}
-use Rattle.stepwise.specs.declared.Named.{Named}
-use Rattle.stepwise.specs.declared.Named.TheVariants.{As, Nothing}
-use Rattle.stepwise.specs.declared.Sought.{Sought}
-use Rattle.stepwise.specs.declared.Sought.TheVariants.{Own, Free}
 use Rattle.stepwise.specs.Words.{control_at, soonest_at, place_at, arm_at, latest_at, entry_words, first_words, control_words, arm_words}
 
 -- what a call answers, and the words after it
@@ -122,28 +117,23 @@ put_event ws h place e = splice (put_step ws h.motion.control h.soonest place e)
 abbrev pub entry_there : Table → ℕ → Entry
 entry_there t place = get_or t.places place away_entry
 
--- the entry that is sought: present train n's, or one that no train has (for private contracts)
-abbrev pub is_sought : Sought → Entry → Bool
-is_sought (Own n) e = is_of n e
-is_sought Free e = is_free e
-
 -- ---- calls
 
 -- the kind of approach that a letter names: A, B, E, F
-abbrev pub kind_named : Option Letter → Named
-kind_named (Some (letter.Event (events.Approach k))) = As k
-kind_named (Some (letter.Event events.Occupy)) = Nothing
-kind_named (Some (letter.Event events.Leave)) = Nothing
-kind_named (Some letter.Clock) = Nothing
-kind_named (Some (letter.Command k)) = Nothing
-kind_named None = Nothing
+abbrev pub kind_named : Option Letter → Option Kind
+kind_named (Some (letter.Event (events.Approach k))) = Some k
+kind_named (Some (letter.Event events.Occupy)) = None
+kind_named (Some (letter.Event events.Leave)) = None
+kind_named (Some letter.Clock) = None
+kind_named (Some (letter.Command k)) = None
+kind_named None = None
 
 -- an approach of the kind that is named, if one is
-abbrev pub of_kind : {X : Type 0} → Named → (Kind → X) → Option X
-of_kind (As k) approach = some (approach k)
-of_kind Nothing approach = none
+abbrev pub of_kind : {X : Type 0} → Option Kind → (Kind → X) → Option X
+of_kind (Some k) approach = Some (approach k)
+of_kind None approach = None
 
 -- what a call that names a step gives; 15 where it names none
 abbrev pub or_no_step : {X : Type 0} → Option X → List ℕ → (X → Called) → Called
-or_no_step (some x) ws gives = gives x
-or_no_step none ws gives = called 15 ws
+or_no_step (Some x) ws gives = gives x
+or_no_step None ws gives = called 15 ws

@@ -1,8 +1,7 @@
 -- A cabinet and a bench in words, driven by every list of calls, refused ones and letters that name no step among them: the words that the start left, and
 -- that only these calls changed, are those of the cabinet, or of the bench, after the steps that the calls name. So what is claimed of every list of steps
 -- holds of them: for the cabinet that what it keeps is what its table says, and the claims; for the bench demand 3 too. Assumes nothing.
-use Rattle.std.specs.Prelude.{ℕ, ◌%◌, ◌≤◌, ◌<◌, ◌≡◌, List, [], ◌∷◌, Float, length, get_or}
-use Rattle.std.proofs.Math.Option.{Option, none, some}
+use Rattle.std.specs.Prelude.{Option, Some, None, ℕ, ◌%◌, ◌≤◌, ◌<◌, ◌≡◌, List, [], ◌∷◌, Float, length, get_or}
 use Rattle.settings.specs.declared.Settings.{Settings}
 use Rattle.settings.specs.Settings.{Accepted}
 use Rattle.trains.specs.declared.Table.{Table}
@@ -62,8 +61,8 @@ module _ {C : Type 0} (call : List ℕ → C → Called) where
 
 -- the steps that calls name
 abbrev pub with_named : {X : Type 0} → Option X → List X → List X
-with_named (some x) xs = x ∷ xs
-with_named none xs = xs
+with_named (Some x) xs = x ∷ xs
+with_named None xs = xs
 
 unfoldable pub steps_named : {C X : Type 0} → (C → Option X) → List C → List X
 steps_named said [] = []
@@ -71,9 +70,9 @@ steps_named said (c ∷ cs) = with_named (said c) (steps_named said cs)
 
 -- the answers to these, packed, each beside its call; 15 beside a call that names none (there are as many answers as steps)
 abbrev pub beside_named : {X : Type 0} → Option X → List Answer → (List Answer → List ℕ) → List ℕ
-beside_named (some x) [] rest = []
-beside_named (some x) (a ∷ given) rest = packed_answer a ∷ rest given
-beside_named none given rest = 15 ∷ rest given
+beside_named (Some x) [] rest = []
+beside_named (Some x) (a ∷ given) rest = packed_answer a ∷ rest given
+beside_named None given rest = 15 ∷ rest given
 
 unfoldable pub answers_beside : {C X : Type 0} → (C → Option X) → List C → List Answer → List ℕ
 answers_beside said [] given = []

@@ -1,7 +1,7 @@
 -- A cabinet and a bench in words that the caller lends: what each word says, from words and to words. Every list of words is read as some cabinet and as
 -- some bench: a word that names no command, kind or standing is read as the one said last beside it, one that is not there as 0.
 -- Decides beyond the documents: which word stands where. Assumes nothing.
-use Rattle.std.specs.Prelude.{ℕ, zero, suc, ◌+◌, ◌*◌, ◌/◌, ◌%◌, cond, List, [], ◌∷◌, ◌++◌, eqb, get_or}
+use Rattle.std.specs.Prelude.{ℕ, zero, suc, ◌+◌, ◌*◌, ◌/◌, ◌%◌, cond, List, [], ◌∷◌, ◌++◌, eqb, get_or, Some, None}
 use Rattle.settings.specs.declared.Kind.{Kind}
 use Rattle.settings.specs.declared.Kind.TheVariants.{Loaded, Empty, Engine, RailCar}
 use Rattle.settings.specs.declared.Settings.{Settings}
@@ -13,9 +13,8 @@ use Rattle.trains.specs.declared.Standing.{Standing}
 use Rattle.trains.specs.declared.Standing.TheVariants.{Away, Coming, Inside}
 use Rattle.trains.specs.declared.Entry.{Entry}
 use Rattle.trains.specs.declared.Table.{Table}
-use Rattle.trains.specs.declared.First.TheVariants.{Nobody, Train}
 use Rattle.trains.specs.Trains.{since}
-use Rattle.trains.specs.First.{First, train_of}
+use Rattle.trains.specs.First.{First, due, train_of}
 use Rattle.cabinet.specs.declared.Control.{Control}
 use Rattle.cabinet.specs.declared.Cabinet.{Cabinet}
 use Rattle.bench.specs.declared.Head.{Head}
@@ -112,19 +111,19 @@ entries_words (e ∷ es) = entry_words e ++ entries_words es
 -- ---- a train that is first: 0 nobody, otherwise a train; its number, and its instant in two words, the low one first
 
 abbrev pub first_from : ℕ → ℕ → ℕ → ℕ → First
-first_from w n low high = cond (eqb w 0) Nobody (Train n (low + 4294967296 * high))
+first_from w n low high = cond (eqb w 0) None (Some (due n (low + 4294967296 * high)))
 
 abbrev pub first_in : List ℕ → ℕ → First
 first_in ws i = first_from (get_or ws i 0) (get_or ws (i + 1) 0) (get_or ws (i + 2) 0) (get_or ws (i + 3) 0)
 
 abbrev pub first_number : First → ℕ
-first_number Nobody = 0
-first_number (Train n t) = 1
+first_number None = 0
+first_number (Some a) = 1
 
 -- its instant, 0 for nobody
 abbrev pub instant_of : First → ℕ
-instant_of Nobody = 0
-instant_of (Train n t) = t
+instant_of None = 0
+instant_of (Some a) = a.instant
 
 abbrev pub first_words : First → List ℕ
 first_words f = first_number f ∷ train_of f ∷ instant_of f % 4294967296 ∷ instant_of f / 4294967296 ∷ []

@@ -1,35 +1,35 @@
-// A cabinet and a bench in words that the caller lends, one call a step. A clock step reads and writes words beside the table alone; a
-// train's step reads the table, and writes the words of one entry.
+//! A cabinet and a bench in words that the caller lends, one call a step. A clock step reads and writes words beside the table alone; a
+//! train's step reads the table, and writes the words of one entry.
+//!
+//! The words may hold anything, and are read as some cabinet or bench whatever they hold. What C lends and gets stays words: an exported
+//! function takes no enum, and a struct of numbers by value costs as much again as a step.
 #![tactic(auto)]
 
-ghost use Rattle.std.specs.Prelude.{◌+◌, ◌<◌, ◌≤◌, ◌≡◌, true, [], ◌∷◌, ◌++◌, length};
+ghost use Rattle.std.specs.Prelude.{◌+◌, ◌<◌, ◌≤◌, ◌≡◌, true, ◌++◌, length, map, position, IfSome, IfOk, IfErr};
 ghost use Rattle.lines.specs.Bytes.{splice};
+ghost use Rattle.settings.specs.Refusal.{judged};
+ghost use Rattle.settings.specs.Settings.{number_of};
 ghost use Rattle.settings.specs.Values.{thirteen, settings_of};
-ghost use Rattle.arm.specs.declared.Reading.TheVariants.{Angle};
-ghost use Rattle.arm.specs.Shown.{number_of};
-ghost use Rattle.trains.specs.Trains.{is_present};
-ghost use Rattle.trains.specs.Table.{index_of, found_for};
-ghost use Rattle.trains.specs.First.{first_but, rest_of, asked_of};
-ghost use Rattle.cabinet.specs.declared.Order.{Order};
-ghost use Rattle.cabinet.specs.Cabinet.{Taken};
+ghost use Rattle.trains.specs.Table.{is_of, is_free, found_for};
+ghost use Rattle.trains.specs.First.{own_but, first_but, rest_of};
+ghost use Rattle.cabinet.specs.Cabinet.{answered, order, looked_at};
 ghost use Rattle.runs.specs.Letters.{letter_of};
-ghost use Rattle.runs.specs.Run.{or_else};
-ghost use Rattle.stepwise.specs.Words.{soonest_at, table_at, place_at, cabinet_length, bench_length, command_from, command_number, kind_from, kind_as, standing_from, standing_number, entry_from, entry_in, entry_words, table_from};
+ghost use Rattle.stepwise.specs.Words.{soonest_at, table_at, place_at, cabinet_length, bench_length, command_from, command_number, kind_from, kind_as, standing_from, standing_number, entry_in, entry_words, table_from};
 ghost use Rattle.stepwise.specs.Words.{entries_words, first_in, first_words, settings_from, ticks_from, ticks_words, control_from};
-ghost use Rattle.stepwise.specs.Words.{cabinet_words, head_from, bench_words};
-ghost use Rattle.stepwise.specs.Calls.{called, packed_answer, train_number, QuietTick, StillTick, put_clock, put_control, put_motion, put_step, put_event, kind_named, is_sought};
+ghost use Rattle.stepwise.specs.Words.{cabinet_words, head_from, arm_words, bench_words};
+ghost use Rattle.stepwise.specs.Calls.{called, packed_answer, QuietTick, StillTick, put_clock, put_control, put_motion, put_step, kind_named};
 ghost use Rattle.stepwise.specs.CabinetCalls as cabinetCall;
-ghost use Rattle.stepwise.specs.CabinetCalls.{cabinet_started, cabinet_looks, cabinet_approaches, cabinet_leaves, cabinet_called};
+ghost use Rattle.stepwise.specs.CabinetCalls.{cabinet_started, cabinet_called};
 ghost use Rattle.stepwise.specs.BenchCalls as benchCall;
-ghost use Rattle.stepwise.specs.BenchCalls.{bench_started, bench_senses, bench_reads, bench_called};
+ghost use Rattle.stepwise.specs.BenchCalls.{bench_started, bench_reads, bench_called};
 ghost use Rattle.stepwise.specs.Shown.{gate_number, showed, pose_shown, gate_shown};
 
-use arm::{Command, Gate, Reading};
+use arm::{Command, Gate, Pose};
 use bench::{Bench, Event, Head, Motion};
-use cabinet::{Answer, Cabinet, Control, Order};
-use runs::Letter;
-use settings::{Kind, Settings, Ticks, Times};
-use trains::{Asked, Entry, First, Found, Question, Standing, Table};
+use cabinet::{Cabinet, Control, LAST_INSTANT, Order};
+use runs::{Letter, given, letter_byte, train_of};
+use settings::{Kind, Refusal, Settings, Ticks, Times, number};
+use trains::{Due, Entry, Question, Standing, Table, train_number};
 
 // Where the words lie: the thirteen settings from 0 on, D and U; then the instant and the command, the soonest train, and the table.
 const TICKS: usize = 13;
@@ -49,34 +49,19 @@ const LATEST: usize = 407;
 
 const BENCH: usize = 411;
 
-// The kind of approach that a letter names, if it names one.
-#[derive(Clone, Copy)]
-enum Named {
-    As(Kind),
-    Nothing,
-}
+// ---- numbers: functions here and no `From`, since both types of each belong to other crates
 
-// What is sought in the table: present train n's entry, or one that no train has.
-#[derive(Clone, Copy)]
-enum Sought {
-    Own(u32),
-    Free,
-}
-
-// ---- numbers
-
-// 0 up, otherwise down.
+/// 0 up, otherwise down.
 fn command_from(word: u32) -> Command
     ensures { result ≡ command_from word }
 {
-    if word == 0 {
-        Command::Up
-    } else {
-        Command::Down
+    match word {
+        0 => Command::Up,
+        _ => Command::Down,
     }
 }
 
-// 0 up, 1 down.
+/// 0 up, 1 down.
 pub fn command_number(command: Command) -> u32
     ensures { result ≡ command_number command }
 {
@@ -86,22 +71,19 @@ pub fn command_number(command: Command) -> u32
     }
 }
 
-// 2 to 4 are kinds 2 to 4, otherwise kind 1.
+/// 2 to 4 are kinds 2 to 4, otherwise kind 1.
 fn kind_from(word: u32) -> Kind
     ensures { result ≡ kind_from word }
 {
-    if word == 2 {
-        Kind::Empty
-    } else if word == 3 {
-        Kind::Engine
-    } else if word == 4 {
-        Kind::RailCar
-    } else {
-        Kind::Loaded
+    match word {
+        2 => Kind::Empty,
+        3 => Kind::Engine,
+        4 => Kind::RailCar,
+        _ => Kind::Loaded,
     }
 }
 
-// 1 to 4.
+/// 1 to 4.
 pub fn kind_as(kind: Kind) -> u32
     ensures { result ≡ kind_as kind }
 {
@@ -113,20 +95,18 @@ pub fn kind_as(kind: Kind) -> u32
     }
 }
 
-// 0 away, 1 coming, otherwise inside, since the instant.
+/// 0 away, 1 coming, otherwise inside, since the instant.
 fn standing_from(word: u32, instant: u32) -> Standing
     ensures { result ≡ standing_from word instant }
 {
-    if word == 0 {
-        Standing::Away
-    } else if word == 1 {
-        Standing::Coming(instant)
-    } else {
-        Standing::Inside(instant)
+    match word {
+        0 => Standing::Away,
+        1 => Standing::Coming(instant),
+        _ => Standing::Inside(instant),
     }
 }
 
-// 0 away, 1 coming, 2 inside.
+/// 0 away, 1 coming, 2 inside.
 pub fn standing_number(standing: Standing) -> u32
     ensures { result ≡ standing_number standing }
 {
@@ -139,29 +119,31 @@ pub fn standing_number(standing: Standing) -> u32
 
 // ---- from words
 
-// The entry that four words hold.
-fn entry_from(number: u32, kind: u32, standing: u32, instant: u32) -> Entry
-    ensures { result ≡ entry_from number kind standing instant }
+/// The entry that four words hold.
+fn entry_from(words: &[u32; 4]) -> Entry
+    ensures { result ≡ entry_in words.now 0 }
 {
     Entry {
-        standing: standing_from(standing, instant),
-        number: (number % 65536) as u16,
-        kind: kind_from(kind),
+        standing: standing_from(words[2], words[3]),
+        number: (words[0] % 65_536) as u16,
+        kind: kind_from(words[1]),
     }
 }
 
-// The train that is first, or nobody, by the four words from `at` on.
-fn first_from(words: &[u32], at: usize) -> First
+/// The train that is first, if any, by the four words from `at` on.
+fn first_from(words: &[u32], at: usize) -> Option<Due>
     requires { at + 4 ≤ length words.now }
     ensures { result ≡ first_in words.now at }
 {
     if words[at] == 0 {
-        First::Nobody
-    } else {
-        let low = words[at + 2] as u64;
-        let high = words[at + 3] as u64;
-        First::Train(words[at + 1], low + 4294967296 * high)
+        return None;
     }
+    let low = u64::from(words[at + 2]);
+    let high = u64::from(words[at + 3]);
+    Some(Due {
+        instant: low + 4_294_967_296 * high,
+        train: words[at + 1],
+    })
 }
 
 #[tactic(auto, unfolding(crate::specs::Words::settings_from))]
@@ -214,108 +196,19 @@ fn control_from(words: &[u32]) -> Control
     }
 }
 
-// ---- the table, asked where it lies
-
-// The entry at a place.
-fn entry_at(words: &[u32], place: usize) -> Entry
-    requires { (cabinet_length ≤ length words.now) × (place < 96) }
-    ensures { result ≡ entry_in words.now (place_at place) }
+#[tactic(auto, unfolding(crate::specs::Words::head_from))]
+fn motion_from(words: &[u32]) -> Motion
+    requires { bench_length ≤ length words.now }
+    ensures { result ≡ (head_from words.now).motion }
 {
-    let i = TABLE + 4 * place;
-    entry_from(words[i], words[i + 1], words[i + 2], words[i + 3])
-}
-
-// Whether the entry of the four words from `i` on is sought.
-#[tactic(auto, using(crate::proofs::Search::of_words, crate::proofs::Search::free_words))]
-fn is_sought(words: &[u32], i: usize, sought: Sought) -> bool
-    requires { i + 4 ≤ length words.now }
-    ensures { result ≡ is_sought sought (entry_in words.now i) }
-{
-    match sought {
-        Sought::Own(n) => (words[i + 2] != 0) & (words[i] % 65536 == n),
-        Sought::Free => words[i + 2] == 0,
+    Motion {
+        control: control_from(words),
+        angle: (words[ARM] % 65_536) as u16,
+        previous: (words[ARM + 1] % 65_536) as u16,
     }
 }
 
-// The first place of the entry that is sought, 96 for none.
-#[tactic(auto, using(crate::proofs::Search::none_start, crate::proofs::Search::none_next, crate::proofs::Search::none_found, crate::proofs::Search::none_end))]
-fn place_of(words: &[u32], sought: Sought) -> usize
-    requires { cabinet_length ≤ length words.now }
-    ensures { result ≡ index_of (is_sought sought) (table_from words.now).places }
-{
-    let mut place: usize = 0;
-    while place < 96 {
-        if is_sought(words, TABLE + 4 * place, sought) {
-            return place;
-        }
-        place = place + 1;
-    }
-    place
-}
-
-// Train n in the table, as `trains::Table::find` gives it, and no other entry decoded.
-#[tactic(auto, using(crate::proofs::Search::found_own, crate::proofs::Search::found_none))]
-fn find_in(words: &[u32], n: u32) -> Found
-    requires { cabinet_length ≤ length words.now }
-    ensures { result ≡ found_for (table_from words.now) n }
-{
-    let own = place_of(words, Sought::Own(n));
-    if own < 96 {
-        return Found {
-            place: own,
-            entry: entry_at(words, own),
-        };
-    }
-    Found {
-        place: place_of(words, Sought::Free),
-        entry: trains::away(),
-    }
-}
-
-// Who is first of all trains but n, as `trains::Table::first_but` gives it, from the last place to the first.
-#[tactic(auto, using(crate::proofs::Search::first_from, crate::proofs::Search::first_end, crate::proofs::Search::first_next), unfolding(trains::specs::First::first_but))]
-fn first_but_in(words: &[u32], s: Settings, q: Question, n: u32) -> First
-    requires { cabinet_length ≤ length words.now }
-    ensures { result ≡ first_but s q n (table_from words.now) }
-{
-    let mut best = First::Nobody;
-    let mut place: usize = 96;
-    while 0 < place {
-        place = place - 1;
-        best = trains::with_other(s, q, n, entry_at(words, place), best);
-    }
-    best
-}
-
-// Who is first without train n: the table is read through only where that was train n.
-#[tactic(auto, unfolding(trains::specs::First::rest_of))]
-fn rest_in(words: &[u32], s: Settings, q: Question, was: First, n: u32) -> First
-    requires { cabinet_length ≤ length words.now }
-    ensures { result ≡ rest_of s q was n (table_from words.now) }
-{
-    if trains::names(was, n) {
-        return first_but_in(words, s, q, n);
-    }
-    was
-}
-
-// What the table says of train n, as `trains::Table::ask` does.
-#[tactic(auto, using(trains::proofs::Laws::place_room, crate::proofs::Words::entries_many))]
-fn ask_in(words: &[u32], s: Settings, q: Question, was: First, n: u32) -> Asked
-    requires { cabinet_length ≤ length words.now }
-    ensures { (result ≡ asked_of (table_from words.now) s q was n) × (is_present result.entry.standing ≡ true → result.place < 96) }
-{
-    let f = find_in(words, n);
-    let entry = f.entry;
-    let rest = rest_in(words, s, q, was, n);
-    Asked {
-        place: f.place,
-        entry: entry,
-        rest: rest,
-    }
-}
-
-// The head of the bench that the words hold.
+/// The bench without its table.
 #[tactic(auto, unfolding(crate::specs::Words::head_from))]
 fn head_from(words: &[u32]) -> Head
     requires { bench_length ≤ length words.now }
@@ -324,356 +217,382 @@ fn head_from(words: &[u32]) -> Head
     Head {
         settings: settings_from(words),
         ticks: ticks_from(words),
-        motion: Motion {
-            control: control_from(words),
-            angle: (words[ARM] % 65536) as u16,
-            previous: (words[ARM + 1] % 65536) as u16,
-        },
+        motion: motion_from(words),
         soonest: first_from(words, SOONEST),
         latest: first_from(words, LATEST),
     }
 }
 
-// ---- to words
+// ---- the table, asked where it lies
 
-#[tactic(auto, using(crate::proofs::Words::two_spliced))]
-fn put_two(words: &mut [u32], at: usize, a: u32, b: u32)
-    requires { at + 2 ≤ length words.old }
-    ensures { words.new ≡ splice words.old at (a ∷ b ∷ []) }
+/// The words of its entries.
+#[tactic(auto, using(crate::proofs::Search::chunks_there))]
+fn entries(words: &[u32]) -> &[[u32; 4]]
+    requires { cabinet_length ≤ length words.now }
+    ensures entries { map (λ entry. entry_in entry 0) result.now ≡ (table_from words.now).places }
+    ensures many { length result.now ≡ 96 }
 {
-    words[at] = a;
-    words[at + 1] = b;
+    let (entries, _) = words[TABLE..CABINET].as_chunks::<4>();
+    entries
 }
 
-#[tactic(auto, using(crate::proofs::Words::four_spliced))]
-fn put_four(words: &mut [u32], at: usize, a: u32, b: u32, c: u32, d: u32)
-    requires { at + 4 ≤ length words.old }
-    ensures { words.new ≡ splice words.old at (a ∷ b ∷ c ∷ d ∷ []) }
+/// The entry at a place.
+fn entry_at(words: &[u32], place: usize) -> Entry
+    requires { (cabinet_length ≤ length words.now) × (place < 96) }
+    ensures { result ≡ entry_in words.now (place_at place) }
 {
-    words[at] = a;
-    words[at + 1] = b;
-    words[at + 2] = c;
-    words[at + 3] = d;
+    let i = TABLE + 4 * place;
+    entry_from(&[words[i], words[i + 1], words[i + 2], words[i + 3]])
 }
 
-fn put_control(words: &mut [u32], w: Control)
-    requires { cabinet_length ≤ length words.old }
-    ensures { words.new ≡ put_control words.old w }
+/// The place of a train, if it is present.
+
+fn place_of(words: &[u32], train: u32) -> Option<usize>
+    requires { cabinet_length ≤ length words.now }
+    ensures place { result ≡ position (is_of train) (table_from words.now).places }
+    ensures room { IfSome result (λ place. place < 96) }
 {
-    let command = w.command;
-    put_two(words, CONTROL, w.now, command_number(command));
+    entries(words)
+        .iter()
+        .position(|entry| entry_from(entry).is_of(train))
 }
 
-fn put_first(words: &mut [u32], at: usize, f: First)
-    requires { at + 4 ≤ length words.old }
-    ensures { words.new ≡ splice words.old at (first_words f) }
+/// The first place that no train has.
+
+fn free_place(words: &[u32]) -> Option<usize>
+    requires { cabinet_length ≤ length words.now }
+    ensures place { result ≡ position is_free (table_from words.now).places }
+    ensures room { IfSome result (λ place. place < 96) }
 {
-    match f {
-        First::Nobody => put_four(words, at, 0, 0, 0, 0),
-        First::Train(n, t) => {
-            let low = (t % 4294967296) as u32;
-            let high = (t / 4294967296) as u32;
-            put_four(words, at, 1, n, low, high);
-        }
+    entries(words)
+        .iter()
+        .position(|entry| entry_from(entry).is_free())
+}
+
+/// As `Table::find` of the table that the words hold.
+#[tactic(auto, using(crate::proofs::Search::find_own, crate::proofs::Search::find_free))]
+fn find(words: &[u32], train: u32) -> Result<usize, Option<usize>>
+    requires { cabinet_length ≤ length words.now }
+    ensures found { result ≡ found_for (table_from words.now) train }
+    ensures own { IfOk result (λ place. place < 96) }
+    ensures free { IfErr result (λ free. IfSome free (λ place. place < 96)) }
+{
+    match place_of(words, train) {
+        Some(place) => Ok(place),
+        None => Err(free_place(words)),
     }
 }
 
-fn put_entry(words: &mut [u32], place: usize, e: Entry)
-    requires { (cabinet_length ≤ length words.old) × (place < 96) }
-    ensures { words.new ≡ splice words.old (place_at place) (entry_words e) }
+/// The train of an entry with the instant that is asked for, where it has one and is another than this one.
+#[tactic(auto, unfolding(trains::specs::First::own_but, trains::specs::First::own_of))]
+fn own_but(entry: &[u32; 4], settings: &Settings, question: Question, train: u32) -> Option<Due>
+    ensures { result ≡ own_but settings.now question train (entry_in entry.now 0) }
 {
-    let kind = e.kind;
-    let standing = e.standing;
-    put_four(
+    entry_from(entry)
+        .own(settings, question)
+        .filter(|due| due.train != train)
+}
+
+/// As `Table::rest` of the table that the words hold.
+#[tactic(auto, unfolding(trains::specs::First::rest_of))]
+fn rest(
+    words: &[u32],
+    settings: &Settings,
+    question: Question,
+    was: Option<Due>,
+    train: u32,
+) -> Option<Due>
+    requires { cabinet_length ≤ length words.now }
+    ensures { result ≡ rest_of settings.now question was train (table_from words.now) }
+{
+    if Due::is_named(was, train) {
+        first_but(words, settings, question, train)
+    } else {
+        was
+    }
+}
+
+/// As `Table::first_but` of the table that the words hold.
+fn first_but(words: &[u32], settings: &Settings, question: Question, train: u32) -> Option<Due>
+    requires { cabinet_length ≤ length words.now }
+    ensures { result ≡ first_but settings.now question train (table_from words.now) }
+{
+    let own = |entry: &[u32; 4]| own_but(entry, settings, question, train);
+    entries(words).iter().filter_map(own).min()
+}
+
+// ---- to words
+
+fn entry_words(entry: Entry) -> [u32; 4]
+    ensures { result ≡ entry_words entry }
+{
+    [
+        u32::from(entry.number),
+        kind_as(entry.kind),
+        standing_number(entry.standing),
+        entry.standing.since(),
+    ]
+}
+
+fn first_words(first: Option<Due>) -> [u32; 4]
+    ensures { result ≡ first_words first }
+{
+    match first {
+        None => [0; 4],
+        Some(due) => [
+            1,
+            due.train,
+            (due.instant % 4_294_967_296) as u32,
+            (due.instant / 4_294_967_296) as u32,
+        ],
+    }
+}
+
+fn arm_words(motion: Motion) -> [u32; 2]
+    ensures { result ≡ arm_words motion.angle motion.previous }
+{
+    [u32::from(motion.angle), u32::from(motion.previous)]
+}
+
+fn settings_words(settings: &Settings, ticks: Ticks) -> [u32; 15]
+    ensures { result ≡ thirteen settings.now ++ ticks_words ticks }
+{
+    [
+        settings.loaded.earliest,
+        settings.loaded.latest,
+        settings.fall,
+        settings.rise,
+        settings.worthwhile,
+        settings.ahead,
+        settings.behind,
+        settings.empty.earliest,
+        settings.empty.latest,
+        settings.engine.earliest,
+        settings.engine.latest,
+        settings.railcar.earliest,
+        settings.railcar.latest,
+        ticks.fall,
+        ticks.rise,
+    ]
+}
+
+/// Writes values from `at` on.
+#[inline(always)]
+fn put(words: &mut [u32], at: usize, values: &[u32])
+    requires { at + length values.now ≤ length words.old }
+    ensures { words.new ≡ splice words.old at values.now }
+{
+    words[at..at + values.len()].copy_from_slice(values);
+}
+
+fn put_control(words: &mut [u32], control: Control)
+    requires { cabinet_length ≤ length words.old }
+    ensures { words.new ≡ put_control words.old control }
+{
+    put(
         words,
-        TABLE + 4 * place,
-        e.number as u32,
-        kind_as(kind),
-        standing_number(standing),
-        trains::since_of(standing),
+        CONTROL,
+        &[control.now, command_number(control.command)],
     );
 }
 
-#[tactic(auto, using(lines::proofs::Splices::length_splice, crate::proofs::Words::settings_spliced))]
-fn put_settings(words: &mut [u32], s: Settings, ticks: Ticks)
-    requires { cabinet_length ≤ length words.old }
-    ensures { words.new ≡ splice words.old 0 (thirteen s ++ ticks_words ticks) }
+fn put_entry(words: &mut [u32], place: usize, entry: Entry)
+    requires { (cabinet_length ≤ length words.old) × (place < 96) }
+    ensures { words.new ≡ splice words.old (place_at place) (entry_words entry) }
 {
-    let one = s.loaded;
-    let two = s.empty;
-    let three = s.engine;
-    let four = s.railcar;
-    put_four(words, 0, one.earliest, one.latest, s.fall, s.rise);
-    put_four(words, 4, s.worthwhile, s.ahead, s.behind, two.earliest);
-    put_four(
-        words,
-        8,
-        two.latest,
-        three.earliest,
-        three.latest,
-        four.earliest,
-    );
-    put_two(words, 12, four.latest, ticks.fall);
-    words[14] = ticks.rise;
+    put(words, TABLE + 4 * place, &entry_words(entry));
 }
 
 #[tactic(auto, using(trains::proofs::Lists::length_mapped, crate::proofs::Words::writing_start, crate::proofs::Words::writing_next, crate::proofs::Words::writing_end, crate::proofs::Words::writing_length))]
-fn put_table(words: &mut [u32], t: Table)
+fn put_table(words: &mut [u32], table: Table)
     requires { cabinet_length ≤ length words.old }
-    ensures { words.new ≡ splice words.old table_at (entries_words t.places) }
+    ensures { words.new ≡ splice words.old table_at (entries_words table.places) }
 {
-    let mut place: usize = 0;
-    while place < 96 {
-        let e = t.places[place];
-        put_entry(words, place, e);
-        place = place + 1;
+    for (place, entry) in table.places.iter().enumerate() {
+        put_entry(words, place, *entry);
     }
 }
 
-// All words of a cabinet.
-#[tactic(auto, using(crate::proofs::Words::cabinet_spliced))]
-fn put_cabinet(words: &mut [u32], c: Cabinet)
+/// All words of a cabinet.
+#[tactic(auto, using(lines::proofs::Splices::length_splice, crate::proofs::Words::cabinet_spliced))]
+fn put_cabinet(words: &mut [u32], cabinet: Cabinet)
     requires { cabinet_length ≤ length words.old }
-    ensures { words.new ≡ splice words.old 0 (cabinet_words c) }
+    ensures { words.new ≡ splice words.old 0 (cabinet_words cabinet) }
 {
-    let soonest = c.soonest;
-    put_settings(words, c.settings, c.ticks);
-    put_control(words, c.control);
-    put_first(words, SOONEST, soonest);
-    put_table(words, c.table);
+    put(words, 0, &settings_words(&cabinet.settings, cabinet.ticks));
+    put_control(words, cabinet.control);
+    put(words, SOONEST, &first_words(cabinet.soonest));
+    put_table(words, cabinet.table);
 }
 
-// All words of a bench.
-#[tactic(auto, using(trains::proofs::Lists::length_mapped, crate::proofs::Words::bench_spliced))]
-fn put_bench(words: &mut [u32], b: Bench)
+/// All words of a bench.
+fn put_bench(words: &mut [u32], bench: Bench)
     requires { bench_length ≤ length words.old }
-    ensures { words.new ≡ splice words.old 0 (bench_words b) }
+    ensures { words.new ≡ splice words.old 0 (bench_words bench) }
 {
-    let h = b.head;
-    let s = h.settings;
-    let ticks = h.ticks;
-    let motion = h.motion;
-    let control = motion.control;
-    let soonest = h.soonest;
-    let latest = h.latest;
-    let table = b.table;
-    let c = Cabinet {
-        settings: s,
-        ticks: ticks,
-        control: control,
-        soonest: soonest,
-        table: table,
+    let motion = bench.head.motion;
+    let cabinet = Cabinet {
+        settings: bench.head.settings,
+        ticks: bench.head.ticks,
+        control: motion.control,
+        soonest: bench.head.soonest,
+        table: bench.table,
     };
-    put_cabinet(words, c);
-    put_two(words, ARM, motion.angle as u32, motion.previous as u32);
-    put_first(words, LATEST, latest);
+    put_cabinet(words, cabinet);
+    put(words, ARM, &arm_words(motion));
+    put(words, LATEST, &first_words(bench.head.latest));
 }
 
-// What a train's step changes of a cabinet: instant and command, the soonest train, and the entry at the train's place.
-fn put_step(words: &mut [u32], w: Control, soonest: First, place: usize, e: Entry)
+/// What a train's step changes of a cabinet: instant and command, the soonest train, and the entry at the train's place.
+fn put_step(words: &mut [u32], control: Control, soonest: Option<Due>, place: usize, entry: Entry)
     requires { (cabinet_length ≤ length words.old) × (place < 96) }
-    ensures { words.new ≡ put_step words.old w soonest place e }
+    ensures { words.new ≡ put_step words.old control soonest place entry }
 {
-    put_control(words, w);
-    put_first(words, SOONEST, soonest);
-    put_entry(words, place, e);
+    put_control(words, control);
+    put(words, SOONEST, &first_words(soonest));
+    put_entry(words, place, entry);
 }
 
-// And of a bench: the train that is first at its latest too.
-fn put_event(words: &mut [u32], h: Head, place: usize, e: Entry)
-    requires { (bench_length ≤ length words.old) × (place < 96) }
-    ensures { words.new ≡ put_event words.old h place e }
+/// What a clock step changes: the instant, and the command where one is given.
+fn put_clock(words: &mut [u32], order: Option<Order>, control: Control)
+    requires { cabinet_length ≤ length words.old }
+    ensures { words.new ≡ put_clock words.old order control }
 {
-    let soonest = h.soonest;
-    let latest = h.latest;
-    put_step(words, h.motion.control, soonest, place, e);
-    put_first(words, LATEST, latest);
+    match order {
+        None => words[CONTROL] = control.now,
+        Some(_) => put_control(words, control),
+    }
+}
+
+/// And of a bench: the arm too.
+fn put_motion(words: &mut [u32], order: Option<Order>, motion: Motion)
+    requires { bench_length ≤ length words.old }
+    ensures { words.new ≡ put_motion words.old order motion }
+{
+    put(words, ARM, &arm_words(motion));
+    put_clock(words, order, motion.control);
 }
 
 // ---- answers
 
-// The refusal number, 256 times the letter of the command, and 65,536 times the train of a lower.
-fn pack(a: Answer) -> u64
-    ensures { result ≡ packed_answer a }
+/// The refusal number, 256 times the letter of the command, and 65,536 times the train of a lower.
+fn pack(answer: Result<Option<Order>, Refusal>) -> u64
+    ensures { result ≡ packed_answer (answered answer) }
 {
-    let number = runs::number_byte(a) as u64;
-    let letter = runs::order_byte(a) as u64;
-    let train = runs::order_train(a) as u64;
+    let order = given(answer);
+    let number = u64::from(number(&answer));
+    let letter = u64::from(letter_byte(order));
+    let train = u64::from(train_of(order));
     number + 256 * letter + 65536 * train
 }
 
-// A clock step that is taken: the instant, and the command where one is given; what it answers.
-#[tactic(auto, using(crate::proofs::Calls::clock_quiet, crate::proofs::Calls::clock_lowers, crate::proofs::Calls::clock_raises))]
-fn settle_clock(words: &mut [u32], o: Order, w: Control) -> u64
-    requires { cabinet_length ≤ length words.old }
-    ensures { called result words.new ≡ called (packed_answer (Taken o)) (put_clock words.old o w) }
-{
-    match o {
-        Order::Nothing => {
-            words[CONTROL] = w.now;
-            0
-        }
-        Order::Lower(_) => {
-            put_control(words, w);
-            pack(Answer::Taken(o))
-        }
-        Order::Raise => {
-            put_control(words, w);
-            pack(Answer::Taken(o))
-        }
-    }
-}
-
-// A bench's: the arm too.
-fn settle_motion(words: &mut [u32], o: Order, m: Motion) -> u64
-    requires { bench_length ≤ length words.old }
-    ensures { called result words.new ≡ called (packed_answer (Taken o)) (put_motion words.old o m) }
-{
-    put_two(words, ARM, m.angle as u32, m.previous as u32);
-    settle_clock(words, o, m.control)
-}
-
-// Where the words are not as many as they should be: the number that is found without them, or 14.
-fn wrong_length(own: u8) -> u64
-    ensures { result ≡ or_else own 14 }
-{
-    runs::or_full(own, false) as u64
-}
-
-// 5 where the number is no train's.
-fn train_number(n: u32) -> u8
-    ensures { result ≡ train_number n }
-{
-    if trains::is_train(n) { 0 } else { 5 }
-}
-
-// 12 where the reading is not allowed.
-fn reading_number(r: Reading) -> u8
-    ensures { result ≡ number_of r }
-{
-    match r {
-        Reading::Angle(k) => { if k <= 5760 { 0 } else { 12 } }
-        Reading::Refused => 12,
-    }
-}
-
-// The kind of approach that a letter names: A, B, E, F.
-fn kind_named(byte: u8) -> Named
+/// The kind of approach that a letter names: A, B, E, F.
+fn kind_named(byte: u8) -> Option<Kind>
     ensures { result ≡ kind_named (letter_of byte) }
 {
-    let letter = runs::letter_of(byte);
-    match letter {
-        Letter::Event(e) => match e {
-            Event::Approach(kind) => Named::As(kind),
-            Event::Occupy => Named::Nothing,
-            Event::Leave => Named::Nothing,
-        },
-        Letter::Clock => Named::Nothing,
-        Letter::Command(_) => Named::Nothing,
-        Letter::None => Named::Nothing,
+    match Letter::of(byte) {
+        Some(Letter::Event(Event::Approach(kind))) => Some(kind),
+        _ => None,
     }
 }
 
 // ---- the cabinet
 
-// A fresh cabinet under the settings, thirteen values in their order (one that is missing is 0, and so refused, 1), in 405 words
-// (`cabinet::start`). Refusals 1 to 4; 14 last, where there are not 405 words.
-#[tactic(auto, using(crate::proofs::CabinetCalls::cabinet_start_taken, crate::proofs::CabinetCalls::cabinet_start_refused, crate::proofs::Calls::full_none))]
+#[tactic(auto, using(crate::proofs::CabinetCalls::cabinet_refused, crate::proofs::CabinetCalls::cabinet_short, crate::proofs::CabinetCalls::cabinet_taken))]
+fn start_cabinet(words: &mut [u32], settings: Settings) -> Result<(), Refusal>
+    ensures { called (number_of (judged result)) words.new ≡ cabinet_started words.old settings }
+{
+    let cabinet = Cabinet::start(settings)?;
+    if words.len() != CABINET {
+        return Err(Refusal::NoSpace);
+    }
+    put_cabinet(words, cabinet);
+    Ok(())
+}
+
+/// A fresh cabinet under the settings, thirteen values in their order (one that is missing is 0, and so refused, 1), in 405 words
+/// (`Cabinet::start`). Refusals 1 to 4; 14 last, where there are not 405 words.
 pub fn cabinet_start(words: &mut [u32], values: &[u32]) -> u64
     ensures { called result words.new ≡ cabinet_started words.old (settings_of values.now) }
 {
-    let m = cabinet::start(settings::of_values(values));
-    let answer = m.answer;
-    let k = runs::or_full(runs::number_byte(answer), words.len() == CABINET);
-    if k == 0 {
-        put_cabinet(words, m.cabinet);
-        return 0;
-    }
-    k as u64
+    u64::from(number(&start_cabinet(words, Settings::of_values(values))))
 }
 
-// A train's step that is taken: the look with the train that is then soonest, and what the step changes.
-#[tactic(auto, using(crate::proofs::CabinetCalls::looks_step))]
-fn hear(words: &mut [u32], soonest: First, place: usize, e: Entry) -> u64
+/// A train's step that is taken: the look with the train that is then soonest, and what the step changes.
+fn take_step(
+    words: &mut [u32],
+    settings: &Settings,
+    soonest: Option<Due>,
+    place: usize,
+    entry: Entry,
+) -> Option<Order>
     requires { (cabinet_length ≤ length words.old) × (place < 96) }
-    ensures { called result words.new ≡ cabinet_looks words.old soonest place e }
+    ensures order { result ≡ order settings.now (ticks_from words.old) soonest (control_from words.old) }
+    ensures words { words.new ≡ put_step words.old (looked_at settings.now (ticks_from words.old) soonest (control_from words.old)).control soonest place entry }
 {
-    let s = settings_from(words);
-    let ticks = ticks_from(words);
-    let w = cabinet::look(s, ticks, soonest, control_from(words));
-    let answer = w.answer;
-    put_step(words, w.control, soonest, place, e);
-    pack(answer)
+    let mut control = control_from(words);
+    let order = control.look(settings, ticks_from(words), soonest);
+    put_step(words, control, soonest, place, entry);
+    order
 }
 
-// An approach, as `cabinet::Cabinet::approach` takes it.
-#[tactic(auto, using(trains::proofs::Laws::train_says, cabinet::proofs::Laws::approach_says, crate::proofs::CabinetCalls::approach_room, crate::proofs::CabinetCalls::approach_taken, crate::proofs::CabinetCalls::approach_refused))]
-fn hear_approach(words: &mut [u32], kind: Kind, n: u32) -> u64
-    requires { cabinet_length ≤ length words.old }
-    ensures { called result words.new ≡ cabinet_approaches words.old kind n }
+#[tactic(auto, using(crate::proofs::Search::put_there), unfolding(crate::specs::CabinetCalls::cabinet_called, crate::specs::CabinetCalls::cabinet_hears, crate::specs::Words::cabinet_from, cabinet::specs::Cabinet::approached, cabinet::specs::Cabinet::looked, cabinet::specs::Cabinet::approach_refusal, cabinet::specs::Cabinet::looked_at, trains::specs::Table::put, trains::specs::Table::found_for, trains::specs::Trains::train_number))]
+fn hear_approach(words: &mut [u32], letter: u8, train: u32) -> Result<Option<Order>, Refusal>
+    ensures { called (packed_answer (answered result)) words.new ≡ cabinet_called words.old (cabinetCall.approaching letter train) }
 {
-    let f = find_in(words, n);
-    let found = f.entry;
-    let standing = found.standing;
-    let k = cabinet::approach_refusal(n, standing, 96 <= f.place);
-    if k == 0 {
-        let e = trains::coming(n as u16, kind, words[CONTROL]);
-        let own = trains::own(settings_from(words), Question::Due, e);
-        let soonest = trains::earlier(own, first_from(words, SOONEST));
-        return hear(words, soonest, f.place, e);
+    let kind = kind_named(letter).ok_or(Refusal::NotInColumns)?;
+    let number = train_number(train)?;
+    if words.len() != CABINET {
+        return Err(Refusal::NoSpace);
     }
-    k as u64
+    let Err(free) = find(words, train) else {
+        return Err(Refusal::NotAway);
+    };
+    let place = free.ok_or(Refusal::TableFull)?;
+    let settings = settings_from(words);
+    let entry = Entry::coming(number, kind, words[CONTROL]);
+    let due = entry.own(&settings, Question::Due);
+    let soonest = Due::earlier(due, first_from(words, SOONEST));
+    Ok(take_step(words, &settings, soonest, place, entry))
 }
 
-// A leave, as `cabinet::Cabinet::leave` takes it.
-#[tactic(auto, using(crate::proofs::CabinetCalls::leave_room, crate::proofs::CabinetCalls::leave_taken, crate::proofs::CabinetCalls::leave_refused))]
-fn hear_leave(words: &mut [u32], n: u32) -> u64
-    requires { cabinet_length ≤ length words.old }
-    ensures { called result words.new ≡ cabinet_leaves words.old n }
+#[tactic(auto, using(crate::proofs::Search::put_there), unfolding(crate::specs::CabinetCalls::cabinet_called, crate::specs::CabinetCalls::cabinet_hears, crate::specs::Words::cabinet_from, cabinet::specs::Cabinet::left, cabinet::specs::Cabinet::looked, cabinet::specs::Cabinet::leave_refusal, cabinet::specs::Cabinet::looked_at, trains::specs::Table::put, trains::specs::Table::found_for, trains::specs::Trains::train_number))]
+fn hear_leave(words: &mut [u32], train: u32) -> Result<Option<Order>, Refusal>
+    ensures { called (packed_answer (answered result)) words.new ≡ cabinet_called words.old (cabinetCall.leaving train) }
 {
-    let s = settings_from(words);
-    let was = first_from(words, SOONEST);
-    let a = ask_in(words, s, Question::Due, was, n);
-    let found = a.entry;
-    let standing = found.standing;
-    let k = cabinet::leave_refusal(n, standing);
-    if k == 0 {
-        let rest = a.rest;
-        return hear(words, rest, a.place, trains::away());
+    train_number(train)?;
+    if words.len() != CABINET {
+        return Err(Refusal::NoSpace);
     }
-    k as u64
+    let place = find(words, train).or(Err(Refusal::NotInside))?;
+    let settings = settings_from(words);
+    let soonest = rest(
+        words,
+        &settings,
+        Question::Due,
+        first_from(words, SOONEST),
+        train,
+    );
+    Ok(take_step(words, &settings, soonest, place, Entry::AWAY))
 }
 
-// A train approaches, by the record's letter of its kind (`cabinet::Cabinet::approach`). 15 first, another letter; refusals 5, 6 and 17;
-// 14 last, where there are not 405 words.
-#[tactic(auto, using(crate::proofs::CabinetCalls::approach_wrong, crate::proofs::CabinetCalls::approach_steps, crate::proofs::CabinetCalls::approach_none))]
+/// A train approaches, by the record's letter of its kind (`Cabinet::approach`). 15 first, another letter; refusals 5, 6 and 17; 14 last,
+/// where there are not 405 words.
 pub fn cabinet_approach(words: &mut [u32], letter: u8, n: u32) -> u64
     ensures { called result words.new ≡ cabinet_called words.old (cabinetCall.approaching letter n) }
 {
-    let named = kind_named(letter);
-    match named {
-        Named::As(kind) => {
-            if words.len() != CABINET {
-                return wrong_length(train_number(n));
-            }
-            hear_approach(words, kind, n)
-        }
-        Named::Nothing => 15,
-    }
+    pack(hear_approach(words, letter, n))
 }
 
-// A present train leaves (`cabinet::Cabinet::leave`). Refusals 5 and 9; 14 last, where there are not 405 words.
-#[tactic(auto, using(crate::proofs::CabinetCalls::leave_wrong, crate::proofs::CabinetCalls::leave_steps))]
+/// A present train leaves (`Cabinet::leave`). Refusals 5 and 9; 14 last, where there are not 405 words.
 pub fn cabinet_leave(words: &mut [u32], n: u32) -> u64
     ensures { called result words.new ≡ cabinet_called words.old (cabinetCall.leaving n) }
 {
-    if words.len() != CABINET {
-        return wrong_length(train_number(n));
-    }
-    hear_leave(words, n)
+    pack(hear_leave(words, n))
 }
 
-// Whether a tick surely gives no command: the command is up, the clock goes on, and nobody is due by the look's horizon.
+/// Whether a tick surely gives no command: the command is up, the clock goes on, and nobody is due by the look's horizon.
+// A way of its own, since the whole step takes 31 instructions for 25, and plain C in place 22.
 #[tactic(auto, using(crate::proofs::CabinetCalls::quiet_words))]
 fn is_quiet(words: &[u32]) -> bool
     requires { cabinet_length ≤ length words.now }
@@ -683,174 +602,222 @@ fn is_quiet(words: &[u32]) -> bool
         return false;
     }
     let now = words[CONTROL];
-    if 9999999 <= now {
+    if now >= LAST_INSTANT {
         return false;
     }
-    let ticks = ticks_from(words);
-    let horizon = (now as u64) + 1 + (ticks.fall as u64);
-    !trains::reached(first_from(words, SOONEST), horizon)
+    let horizon = u64::from(now) + 1 + u64::from(ticks_from(words).fall);
+    !Due::is_by(first_from(words, SOONEST), horizon)
 }
 
-// The clock moves by one tick (`cabinet::tick`). Refusal 10; 14 last, where there are not 405 words.
-#[tactic(auto, using(crate::proofs::CabinetCalls::clock_wrong, crate::proofs::CabinetCalls::clock_taken, crate::proofs::CabinetCalls::clock_refused, crate::proofs::CabinetCalls::clock_still))]
+#[tactic(auto, using(crate::proofs::CabinetCalls::clock_still), unfolding(crate::specs::CabinetCalls::cabinet_called, crate::specs::CabinetCalls::cabinet_hears, crate::specs::Words::cabinet_from, cabinet::specs::Cabinet::clocked))]
+fn hear_clock(words: &mut [u32]) -> Result<Option<Order>, Refusal>
+    ensures { called (packed_answer (answered result)) words.new ≡ cabinet_called words.old cabinetCall.ticking }
+{
+    if words.len() != CABINET {
+        return Err(Refusal::NoSpace);
+    }
+    if is_quiet(words) {
+        words[CONTROL] += 1;
+        return Ok(None);
+    }
+    let mut control = control_from(words);
+    let soonest = first_from(words, SOONEST);
+    let order = control.tick(&settings_from(words), ticks_from(words), soonest)?;
+    put_clock(words, order, control);
+    Ok(order)
+}
+
+/// The clock moves by one tick (`Cabinet::clock`). Refusal 10; 14 last, where there are not 405 words.
 pub fn cabinet_clock(words: &mut [u32]) -> u64
     ensures { called result words.new ≡ cabinet_called words.old cabinetCall.ticking }
 {
-    if words.len() != CABINET {
-        return wrong_length(0);
-    }
-    if is_quiet(words) {
-        words[CONTROL] = words[CONTROL] + 1;
-        return 0;
-    }
-    let s = settings_from(words);
-    let ticks = ticks_from(words);
-    let soonest = first_from(words, SOONEST);
-    let w = cabinet::tick(s, ticks, soonest, control_from(words));
-    let answer = w.answer;
-    match answer {
-        Answer::Taken(o) => settle_clock(words, o, w.control),
-        Answer::Refused(_) => pack(answer),
-    }
+    pack(hear_clock(words))
 }
 
 // ---- the bench
 
-// A fresh bench under the settings, in 411 words (`bench::start`). Refusals 1 to 4; 14 last, where there are not 411 words.
-#[tactic(auto, using(crate::proofs::BenchCalls::bench_start_taken, crate::proofs::BenchCalls::bench_start_refused, crate::proofs::Calls::full_none))]
+#[tactic(auto, using(crate::proofs::BenchCalls::bench_refused, crate::proofs::BenchCalls::bench_short, crate::proofs::BenchCalls::bench_taken))]
+fn start_bench(words: &mut [u32], settings: Settings) -> Result<(), Refusal>
+    ensures { called (number_of (judged result)) words.new ≡ bench_started words.old settings }
+{
+    let bench = Bench::start(settings)?;
+    if words.len() != BENCH {
+        return Err(Refusal::NoSpace);
+    }
+    put_bench(words, bench);
+    Ok(())
+}
+
+/// A fresh bench under the settings, in 411 words (`Bench::start`). Refusals 1 to 4; 14 last, where there are not 411 words.
 pub fn bench_start(words: &mut [u32], values: &[u32]) -> u64
     ensures { called result words.new ≡ bench_started words.old (settings_of values.now) }
 {
-    let m = bench::start(settings::of_values(values));
-    let answer = m.answer;
-    let k = runs::or_full(runs::number_byte(answer), words.len() == BENCH);
-    if k == 0 {
-        put_bench(words, m.bench);
-        return 0;
-    }
-    k as u64
+    u64::from(number(&start_bench(words, Settings::of_values(values))))
 }
 
-// A sensor's event.
-#[tactic(auto, using(runs::proofs::Turns::asked_by, runs::proofs::Turns::taken_place, crate::proofs::BenchCalls::held_is, crate::proofs::BenchCalls::event_wrong, crate::proofs::BenchCalls::event_taken, crate::proofs::BenchCalls::event_refused))]
-fn bench_event(words: &mut [u32], e: Event, n: u32) -> u64
-    ensures { called result words.new ≡ bench_senses words.old e n }
+#[tactic(auto, using(crate::proofs::Search::put_there), unfolding(crate::specs::BenchCalls::bench_called, crate::specs::BenchCalls::bench_takes, crate::specs::BenchCalls::bench_senses, crate::specs::Words::bench_from, crate::specs::Words::head_from, bench::specs::Bench::sensed, bench::specs::Bench::head_approached, bench::specs::Bench::head_looked, cabinet::specs::Cabinet::approach_refusal, cabinet::specs::Cabinet::looked_at, trains::specs::Table::put, trains::specs::Table::found_for, trains::specs::Trains::train_number))]
+fn sense_approach(words: &mut [u32], letter: u8, train: u32) -> Result<Option<Order>, Refusal>
+    ensures { called (packed_answer (answered result)) words.new ≡ bench_called words.old (benchCall.approaching letter train) }
 {
+    let kind = kind_named(letter).ok_or(Refusal::NotInColumns)?;
+    let number = train_number(train)?;
     if words.len() != BENCH {
-        return wrong_length(train_number(n));
+        return Err(Refusal::NoSpace);
     }
-    let head = head_from(words);
-    let q = bench::question_for(e);
-    let was = head.first_for(e);
-    let a = ask_in(words, head.settings, q, was, n);
-    let h = head.sense(e, n, a);
-    let answer = h.answer;
-    match answer {
-        Answer::Taken(_) => {
-            let entry = h.entry;
-            put_event(words, h.head, a.place, entry);
-            pack(answer)
-        }
-        Answer::Refused(_) => pack(answer),
-    }
+    let Err(free) = find(words, train) else {
+        return Err(Refusal::NotAway);
+    };
+    let place = free.ok_or(Refusal::TableFull)?;
+    let settings = settings_from(words);
+    let entry = Entry::coming(number, kind, words[CONTROL]);
+    let due = entry.own(&settings, Question::Due);
+    let soonest = Due::earlier(due, first_from(words, SOONEST));
+    let at_latest = entry.own(&settings, Question::Latest);
+    let latest = Due::earlier(at_latest, first_from(words, LATEST));
+    let order = take_step(words, &settings, soonest, place, entry);
+    put(words, LATEST, &first_words(latest));
+    Ok(order)
 }
 
-// A train approaches, by the record's letter of its kind. 15 first, another letter; refusals 5, 6 and 17; 14 last, where there are not 411
-// words.
-#[tactic(auto, using(crate::proofs::BenchCalls::approach_event, crate::proofs::BenchCalls::approach_none))]
+#[tactic(auto, using(crate::proofs::Search::put_there, crate::proofs::Search::entry_here), unfolding(crate::specs::BenchCalls::bench_called, crate::specs::BenchCalls::bench_takes, crate::specs::BenchCalls::bench_senses, crate::specs::Words::bench_from, crate::specs::Words::head_from, bench::specs::Bench::sensed, bench::specs::Bench::head_occupied, bench::specs::Bench::occupy_refusal, trains::specs::First::instant_of, trains::specs::Table::put, trains::specs::Table::found_for, trains::specs::Trains::train_number))]
+fn sense_occupy(words: &mut [u32], train: u32) -> Result<Option<Order>, Refusal>
+    ensures { called (packed_answer (answered result)) words.new ≡ bench_called words.old (benchCall.occupying train) }
+{
+    train_number(train)?;
+    if words.len() != BENCH {
+        return Err(Refusal::NoSpace);
+    }
+    let place = find(words, train).or(Err(Refusal::NotComing))?;
+    let entry = entry_at(words, place);
+    if !entry.standing.is_coming() {
+        return Err(Refusal::NotComing);
+    }
+    let settings = settings_from(words);
+    if u64::from(words[CONTROL]) < entry.instant_of(&settings, Question::Due) {
+        return Err(Refusal::TooEarly);
+    }
+    let control = control_from(words);
+    let soonest = first_from(words, SOONEST);
+    let latest = rest(
+        words,
+        &settings,
+        Question::Latest,
+        first_from(words, LATEST),
+        train,
+    );
+    put_step(words, control, soonest, place, entry.inside());
+    put(words, LATEST, &first_words(latest));
+    Ok(None)
+}
+
+#[tactic(auto, using(crate::proofs::Search::put_there, crate::proofs::Search::entry_here), unfolding(crate::specs::BenchCalls::bench_called, crate::specs::BenchCalls::bench_takes, crate::specs::BenchCalls::bench_senses, crate::specs::Words::bench_from, crate::specs::Words::head_from, bench::specs::Bench::sensed, bench::specs::Bench::head_left, bench::specs::Bench::head_looked, bench::specs::Bench::bench_leave_refusal, cabinet::specs::Cabinet::looked_at, trains::specs::Table::put, trains::specs::Table::found_for, trains::specs::Trains::train_number))]
+fn sense_leave(words: &mut [u32], train: u32) -> Result<Option<Order>, Refusal>
+    ensures { called (packed_answer (answered result)) words.new ≡ bench_called words.old (benchCall.leaving train) }
+{
+    train_number(train)?;
+    if words.len() != BENCH {
+        return Err(Refusal::NoSpace);
+    }
+    let place = find(words, train).or(Err(Refusal::NotInside))?;
+    if !entry_at(words, place).standing.is_inside() {
+        return Err(Refusal::NotInside);
+    }
+    let settings = settings_from(words);
+    let latest = first_from(words, LATEST);
+    let soonest = rest(
+        words,
+        &settings,
+        Question::Due,
+        first_from(words, SOONEST),
+        train,
+    );
+    let order = take_step(words, &settings, soonest, place, Entry::AWAY);
+    put(words, LATEST, &first_words(latest));
+    Ok(order)
+}
+
+/// A train approaches, by the record's letter of its kind. 15 first, another letter; refusals 5, 6 and 17; 14 last, where there are not 411
+/// words.
 pub fn bench_approach(words: &mut [u32], letter: u8, n: u32) -> u64
     ensures { called result words.new ≡ bench_called words.old (benchCall.approaching letter n) }
 {
-    let named = kind_named(letter);
-    match named {
-        Named::As(kind) => bench_event(words, Event::Approach(kind), n),
-        Named::Nothing => 15,
-    }
+    pack(sense_approach(words, letter, n))
 }
 
-// A coming train goes inside, at its due instant or later. Refusals 5, 7 and 8; 14 last, where there are not 411 words.
-#[tactic(auto, unfolding(crate::specs::BenchCalls::bench_called, crate::specs::BenchCalls::bench_takes))]
+/// A coming train goes inside, at its due instant or later. Refusals 5, 7 and 8; 14 last, where there are not 411 words.
 pub fn bench_occupy(words: &mut [u32], n: u32) -> u64
     ensures { called result words.new ≡ bench_called words.old (benchCall.occupying n) }
 {
-    bench_event(words, Event::Occupy, n)
+    pack(sense_occupy(words, n))
 }
 
-// A train inside leaves. Refusals 5 and 9; 14 last, where there are not 411 words.
-#[tactic(auto, unfolding(crate::specs::BenchCalls::bench_called, crate::specs::BenchCalls::bench_takes))]
+/// A train inside leaves. Refusals 5 and 9; 14 last, where there are not 411 words.
 pub fn bench_leave(words: &mut [u32], n: u32) -> u64
     ensures { called result words.new ≡ bench_called words.old (benchCall.leaving n) }
 {
-    bench_event(words, Event::Leave, n)
+    pack(sense_leave(words, n))
 }
 
-// Whether a tick with this angle surely gives no command: it gives a cabinet none, nobody is at its latest instant, and the arm may go there.
+/// Whether a tick with this angle surely gives no command: it gives a cabinet none, nobody is at its latest instant, and the arm may go there.
 #[tactic(auto, using(crate::proofs::BenchCalls::still_words))]
 fn is_still(words: &[u32], angle: u16) -> bool
     requires { (bench_length ≤ length words.now) × (angle ≤ 5760) }
     ensures { result ≡ true → StillTick (head_from words.now) angle }
 {
-    if is_quiet(words) {
-        let now = words[CONTROL];
-        if trains::reached(first_from(words, LATEST), now as u64) {
-            return false;
+    if !is_quiet(words) {
+        return false;
+    }
+    if Due::is_by(first_from(words, LATEST), u64::from(words[CONTROL])) {
+        return false;
+    }
+    let was = (words[ARM] % 65_536) as u16;
+    Command::Up.may_move(&settings_from(words), was, angle)
+}
+
+/// A clock step with a reading in 64ths (`Head::tick`): where it surely gives no command, only the arm and the instant are written.
+#[tactic(auto, using(crate::proofs::BenchCalls::still_goes_on, crate::proofs::BenchCalls::reads_still), unfolding(crate::specs::Words::bench_from, bench::specs::Bench::clock_read))]
+fn read(words: &mut [u32], reading: Option<u16>) -> Result<Option<Order>, Refusal>
+    requires { (bench_length ≤ length words.old) × IfSome reading (λ angle. angle ≤ 5760) }
+    ensures { called (packed_answer (answered result)) words.new ≡ bench_reads words.old reading }
+{
+    if let Some(angle) = reading {
+        if is_still(words, angle) {
+            let now = words[CONTROL];
+            let was = words[ARM] % 65_536;
+            put(words, ARM, &[u32::from(angle), was]);
+            words[CONTROL] = now + 1;
+            return Ok(None);
         }
-        let was = (words[ARM] % 65536) as u16;
-        return arm::may_move(settings_from(words), Command::Up, was, angle);
     }
-    false
+    let mut head = head_from(words);
+    let order = head.tick(reading)?;
+    put_motion(words, order, head.motion);
+    Ok(order)
 }
 
-// A clock step with a reading in 64ths, as `bench::Head::tick` takes it.
-#[tactic(auto, using(crate::proofs::BenchCalls::reads_taken, crate::proofs::BenchCalls::reads_refused))]
-fn tick_in(words: &mut [u32], read: Reading) -> u64
-    requires { bench_length ≤ length words.old }
-    ensures { called result words.new ≡ bench_reads words.old read }
+#[tactic(auto, using(arm::proofs::Readings::angle_in_range), unfolding(crate::specs::BenchCalls::bench_called, crate::specs::BenchCalls::bench_takes))]
+fn read_clock(words: &mut [u32], reading: f32) -> Result<Option<Order>, Refusal>
+    ensures { called (packed_answer (answered result)) words.new ≡ bench_called words.old (benchCall.ticking reading) }
 {
-    let head = head_from(words);
-    let m = head.tick(read);
-    let answer = m.answer;
-    match answer {
-        Answer::Taken(o) => settle_motion(words, o, m.motion),
-        Answer::Refused(_) => pack(answer),
+    let angle = arm::to_64ths(reading);
+    if words.len() != BENCH {
+        angle.ok_or(Refusal::NotAReading)?;
+        return Err(Refusal::NoSpace);
     }
+    read(words, angle)
 }
 
-// One with an allowed angle: where it surely gives no command, only the arm and the instant are written.
-#[tactic(auto, using(crate::proofs::BenchCalls::still_goes_on, crate::proofs::BenchCalls::reads_still))]
-fn tick_to(words: &mut [u32], angle: u16) -> u64
-    requires { (bench_length ≤ length words.old) × (angle ≤ 5760) }
-    ensures { called result words.new ≡ bench_reads words.old (Angle angle) }
-{
-    if is_still(words, angle) {
-        let now = words[CONTROL];
-        let was = words[ARM] % 65536;
-        put_two(words, ARM, angle as u32, was);
-        words[CONTROL] = now + 1;
-        return 0;
-    }
-    tick_in(words, Reading::Angle(angle))
-}
-
-// The clock moves by one tick and brings a reading in degrees. Refusals 10 to 13; 14 last, where there are not 411 words.
-#[tactic(auto, using(arm::proofs::Readings::angle_in_range, crate::proofs::BenchCalls::clock_wrong, crate::proofs::BenchCalls::clock_reads))]
+/// The clock moves by one tick and brings a reading in degrees. Refusals 10 to 13; 14 last, where there are not 411 words.
 pub fn bench_clock(words: &mut [u32], reading: f32) -> u64
     ensures { called result words.new ≡ bench_called words.old (benchCall.ticking reading) }
 {
-    let read = arm::to_64ths(reading);
-    if words.len() != BENCH {
-        return wrong_length(reading_number(read));
-    }
-    match read {
-        Reading::Angle(angle) => tick_to(words, angle),
-        Reading::Refused => tick_in(words, read),
-    }
+    pack(read_clock(words, reading))
 }
 
 // ---- what the bench shows
 
-// The pose in the first two places of `pose`: the angle and its change over the last clock step, in degrees. 0, or 14 where there are not
-// 411 words or fewer than two places.
+/// The pose in the first two places of `pose`: the angle and its change over the last clock step, in degrees. 0, or 14 where there are not
+/// 411 words or fewer than two places.
 #[tactic(auto, using(crate::proofs::Shown::pose_wrong, crate::proofs::Shown::pose_few, crate::proofs::Shown::pose_there))]
 pub fn bench_pose(words: &[u32], pose: &mut [f32]) -> u64
     ensures { showed result pose.new ≡ pose_shown words.now pose.old }
@@ -861,14 +828,14 @@ pub fn bench_pose(words: &[u32], pose: &mut [f32]) -> u64
     if pose.len() < 2 {
         return 14;
     }
-    let h = head_from(words);
-    let shown = arm::pose_of(h.motion.previous, h.motion.angle);
+    let motion = motion_from(words);
+    let shown = Pose::of(motion.previous, motion.angle);
     pose[0] = shown.angle;
     pose[1] = shown.change;
     0
 }
 
-// 0 up, 1 down, 2 falling, 3 rising.
+/// 0 up, 1 down, 2 falling, 3 rising.
 pub fn gate_number(gate: Gate) -> u32
     ensures { result ≡ gate_number gate }
 {
@@ -880,34 +847,22 @@ pub fn gate_number(gate: Gate) -> u32
     }
 }
 
-// 256 times the gate, and in the first place of `angle` that of a gate that falls or rises, in degrees; up and down leave it. 14 where
-// there are not 411 words or no place.
-#[tactic(auto, using(crate::proofs::Shown::gate_wrong, crate::proofs::Shown::gate_few, crate::proofs::Shown::gate_there, crate::proofs::Shown::angle_up, crate::proofs::Shown::angle_down, crate::proofs::Shown::angle_falling, crate::proofs::Shown::angle_rising))]
+/// 256 times the gate, and in the first place of `angle` that of a gate that falls or rises, in degrees; up and down leave it. 14 where
+/// there are not 411 words or no place.
+#[tactic(auto, using(crate::proofs::Shown::gate_wrong, crate::proofs::Shown::gate_few, crate::proofs::Shown::gate_there))]
 pub fn bench_gate(words: &[u32], angle: &mut [f32]) -> u64
     ensures { showed result angle.new ≡ gate_shown words.now angle.old }
 {
     if words.len() != BENCH {
         return 14;
     }
-    if angle.len() < 1 {
+    if angle.is_empty() {
         return 14;
     }
-    let h = head_from(words);
-    let motion = h.motion;
-    let control = motion.control;
-    let command = control.command;
-    let gate = arm::gate_of(command, motion.angle);
-    let number = 256 * (gate_number(gate) as u64);
-    match gate {
-        Gate::Up => number,
-        Gate::Down => number,
-        Gate::Falling(degrees) => {
-            angle[0] = degrees;
-            number
-        }
-        Gate::Rising(degrees) => {
-            angle[0] = degrees;
-            number
-        }
+    let motion = motion_from(words);
+    let gate = Gate::of(motion.control.command, motion.angle);
+    if let Gate::Falling(degrees) | Gate::Rising(degrees) = gate {
+        angle[0] = degrees;
     }
+    256 * u64::from(gate_number(gate))
 }

@@ -7,5 +7,5 @@ loop-place-init c = writing_start _ _
 
 pub loop-place-preserved : goal.loop-place-preserved
 loop-place-preserved c =
-    let many : length c.args.t.places ≡ 96 = search rules in
+    let many : length c.args.table.places ≡ 96 = search rules in
     writing_next _ _ many c.requires c.loop-place.words _ c.loop-place.place c.loop-place.invariant c.loop-place-test.true c.put_entry.ensures
