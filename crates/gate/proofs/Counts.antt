@@ -1,6 +1,6 @@
 -- Laws of counts: so many bytes are at a buffer's start, and no text is longer than the program's buffers. Assumes nothing.
 use Rattle.std.proofs.Common.{◌≡◌, ℕ, ◌+◌, ◌-◌, ◌*◌, ◌/◌, ◌≤◌, Bool, true, false, cond, eqb, leb, List, [], length, sym, refl, ap, ◌∙◌, subst, arith, length-append, length-drop, length-take, Ok, Err, le-leb, leb-true}
-use Rattle.std.specs.Prelude.{Result, IsOk}
+use Rattle.std.specs.Prelude.{Result, IsOk, IfOk}
 use Rattle.gate.specs.Held.{IsPrefixLen}
 use Rattle.settings.specs.Refusal.{Taken, Refused, Verdict}
 use Rattle.lines.specs.declared.Layout.{Layout}
@@ -18,7 +18,9 @@ use Rattle.converter.specs.Fault.{settings_in, fault_line}
 use Rattle.converter.specs.Convert.{other_text, refused_with, converted_by, converted, is_taken}
 use Rattle.converter.specs.Restore.{Converts}
 use Rattle.converter.proofs.Lengths.{other_long}
-use Rattle.live.specs.declared.Given.{Given}
+use Rattle.settings.specs.declared.refusal.Refusal.{Refusal}
+use Rattle.live.specs.declared.Live.{Live}
+use Rattle.live.specs.Live.{Given, given}
 use Rattle.report.specs.declared.NoSpace.{NoSpace}
 use Rattle.report.specs.Report.{Reported, reported, ReportWritten}
 use Rattle.gate.specs.Held.{Held, other_of, Turned}
@@ -45,8 +47,9 @@ report_held {lines} {out} {r} {n} {after} h e w =
     record { whole = given; bytes = left; within = counted _ _ (omega (arith, simp (length-append, length-drop) at long)) }
 
 -- what a line of the bench's input gives is at its buffer's start
-pub given_held : (out after : List ℕ) {r g : Given} → r ≡ g → g.bytes ≤ length out → length after ≡ length out → IsPrefixLen r.bytes after
-given_held out after p h l = counted _ _ (omega (arith, ap (λ (x : Given). x.bytes) p))
+pub given_held : (out after : List ℕ) {l : Live} (r : Result ℕ Refusal) {g : Given} → given r l ≡ g → g.bytes ≤ length out → length after ≡ length out → IfOk r (λ n. IsPrefixLen n after)
+given_held out after (Ok n) p h l = counted n after (omega (arith, ap (λ (x : Given). x.bytes) p))
+given_held out after (Err e) p h l = tt
 
 -- ---- a text in the other form
 

@@ -1,29 +1,30 @@
 //! `gate bench`: lines of settings and steps as they come, the record's lines as they are made, refusals on standard error. What a line gives is
 //! `live`'s; here lines are gathered from reads, and what they give is written before the next read, and before a refusal is said.
 
-ghost use Rattle.std.specs.Prelude.{◌≡◌, ◌+◌, ◌≤◌, length};
+ghost use Rattle.std.specs.Prelude.{◌≡◌, ◌+◌, ◌≤◌, IfOk, length};
 ghost use Rattle.gate.specs.Held.{IsPrefixLen};
 
 use crate::words::{put_out, say_failure, say_refusal};
 use crate::{Problem, zeros};
 use arrayvec::ArrayVec;
-use live::{Given, Live};
+use live::Live;
+use settings::Refusal;
 use std::io::{Input, Read};
 
 /// What a line gives, within its buffer.
 #[tactic(auto, using(crate::proofs::Counts::given_held, live::proofs::Taking::line_few))]
-fn give_line(live: Live, line: &[u8], out: &mut [u8]) -> Given
-    ensures { IsPrefixLen result.bytes out.new }
+fn give_line(live: &mut Live, line: &[u8], out: &mut [u8]) -> Result<usize, Refusal>
+    ensures { IfOk result (λ bytes. IsPrefixLen bytes out.new) }
 {
-    live::take_line(live, line, out)
+    live.take_line(line, out)
 }
 
 /// And the end of the input.
 #[tactic(auto, using(crate::proofs::Counts::given_held, live::proofs::Taking::end_few))]
-fn give_last(live: Live, out: &mut [u8]) -> Given
-    ensures { IsPrefixLen result.bytes out.new }
+fn give_last(live: &Live, out: &mut [u8]) -> Result<usize, Refusal>
+    ensures { IfOk result (λ bytes. IsPrefixLen bytes out.new) }
 {
-    live::finish(live, out)
+    live.finish(out)
 }
 
 /// What is to go out: the first `pending` bytes.
@@ -62,17 +63,15 @@ impl Window {
     }
 
     /// What a line gives is to go out.
-    fn take_line(&mut self, live: Live, line: &[u8]) -> Given {
-        let given = give_line(live, line, &mut self.bytes[self.pending..]);
-        self.pending += given.bytes;
-        given
+    fn take_line(&mut self, live: &mut Live, line: &[u8]) -> Result<(), Refusal> {
+        self.pending += give_line(live, line, &mut self.bytes[self.pending..])?;
+        Ok(())
     }
 
     /// And what the end of the input gives.
-    fn take_last(&mut self, live: Live) -> Given {
-        let given = give_last(live, &mut self.bytes[self.pending..]);
-        self.pending += given.bytes;
-        given
+    fn take_last(&mut self, live: &Live) -> Result<(), Refusal> {
+        self.pending += give_last(live, &mut self.bytes[self.pending..])?;
+        Ok(())
     }
 }
 
@@ -91,7 +90,7 @@ impl<'a, R: Print + Eprint + AllocGlobal> Keyboard<'a, R> {
     fn new(rt: &'a R) -> Keyboard<'a, R> {
         Keyboard {
             rt,
-            live: live::fresh(),
+            live: Live::fresh(),
             line: ArrayVec::new(),
             window: Window::new(),
             lines: 0,
@@ -110,18 +109,19 @@ impl<'a, R: Print + Eprint + AllocGlobal> Keyboard<'a, R> {
     /// The line that is held has ended: its lines of the record are to go out, or its refusal is said.
     fn take_line(&mut self) -> Result<(), Problem> {
         let room = self.window.make_room(self.rt);
-        let given = self.window.take_line(self.live, self.line.as_slice());
-        self.live = given.live;
+        let taken = self
+            .window
+            .take_line(&mut self.live, self.line.as_slice());
         self.line.clear();
         self.lines = self.lines.wrapping_add(1);
-        if given.number == 0 {
+        let Err(refusal) = taken else {
             return room;
-        }
+        };
         let written = self.window.flush(self.rt);
         say_refusal(
             self.rt,
             self.lines,
-            given.number,
+            refusal,
             "no settings and no step, or not in its place",
         );
         self.refused = true;
@@ -153,7 +153,7 @@ impl<'a, R: Print + Eprint + AllocGlobal> Keyboard<'a, R> {
     /// The record's last line goes out.
     fn give_end(&mut self) -> Result<(), Problem> {
         let room = self.window.make_room(self.rt);
-        self.live = self.window.take_last(self.live).live;
+        let _ = self.window.take_last(&self.live);
         let written = self.window.flush(self.rt);
         room.and(written)
     }

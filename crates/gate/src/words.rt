@@ -1,6 +1,7 @@
 //! What the program says: bytes on standard output, refusals and failures in words on standard error.
 
 use crate::Problem;
+use settings::Refusal;
 use std::io;
 
 /// On standard output; a failure is said.
@@ -32,32 +33,11 @@ pub(crate) fn say_failure<R: Eprint + AllocGlobal>(rt: &R, what: &str, e: io::Er
     Problem::Failed
 }
 
-/// A refusal in words; what 15 means is the caller's to say.
-fn reason(number: u8, format: &'static str) -> &'static str {
-    match number {
-        1 => "a setting is outside its range",
-        2 => "an earliest time is not above the ticks of a fall",
-        3 => "the ahead margin is too small",
-        4 => "the behind margin is too small",
-        5 => "there is no such train number",
-        6 => "an approach of a train that is not away",
-        7 => "an occupy of a train that is not coming",
-        8 => "an occupy before the train's earliest time",
-        9 => "a leave of a train that is not inside",
-        10 => "the clock is at its end",
-        11 => "a coming train is at its latest",
-        12 => "not an allowed reading",
-        13 => "the arm breaks the movement rule",
-        15 => format,
-        16 => "not the instant or the command that the recorder would put there",
-        17 => "96 trains are present",
-        18 => "the old form cannot hold this line",
-        _ => "the text does not fit",
-    }
-}
-
-/// The line, the number and the words of a refusal.
-pub(crate) fn say_refusal<R: Eprint>(rt: &R, line: u64, number: u8, format: &'static str) {
-    let words = reason(number, format);
-    let _ = eprintln!(rt; "line {line}: refused {number}: {words}");
+/// The line, the number and the words of a refusal; what it means that a line stands for nothing there is the caller's to say.
+pub(crate) fn say_refusal<R: Eprint>(rt: &R, line: u64, refusal: Refusal, no_meaning: &'static str) {
+    let number = refusal.number();
+    let _ = match refusal {
+        Refusal::NotInColumns => eprintln!(rt; "line {line}: refused {number}: {no_meaning}"),
+        _ => eprintln!(rt; "line {line}: refused {number}: {refusal}"),
+    };
 }
