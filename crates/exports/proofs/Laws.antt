@@ -12,15 +12,12 @@ use Rattle.settings.specs.Settings.{number_of}
 use Rattle.cabinet.specs.Cabinet as cabinet
 use Rattle.cabinet.specs.Cabinet.{Taken}
 use Rattle.runs.specs.declared.Step.{Step}
-use Rattle.runs.specs.declared.Finished.{Finished}
-use Rattle.runs.specs.Run.{Told, finished_by, unless_refused, Ran}
+use Rattle.runs.specs.Run.{Finished, Told, finished_by, unless_refused, Ran}
 use Rattle.runs.specs.Claims.{Heard}
-use Rattle.alone.specs.declared.Ended.{Ended}
-use Rattle.alone.specs.Alone.{ended_by, AloneRan}
-use Rattle.recorder.specs.declared.Recorded.{Recorded}
+use Rattle.alone.specs.Alone.{Ended, ended_by, AloneRan}
 use Rattle.lines.specs.Layout.{line_bytes}
 use Rattle.recorder.specs.Text.{current, text}
-use Rattle.recorder.specs.Recorder.{start_in}
+use Rattle.recorder.specs.Recorder.{Recorded, start_in}
 use Rattle.recorder.specs.Recording.{run_so_far}
 use Rattle.recording.specs.RunRecorded.{run_gives, run_leaves, RunRecorded}
 use Rattle.recorder.proofs.Recording.{spliced_always, ends_always}

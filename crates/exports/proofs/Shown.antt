@@ -8,9 +8,8 @@ use Rattle.settings.specs.Settings.{number_of}
 use Rattle.bench.specs.declared.Bench.{Bench}
 use Rattle.bench.specs.Bench.{fresh_bench}
 use Rattle.runs.specs.declared.Step.{Step}
-use Rattle.runs.specs.declared.Finished.{Finished}
 use Rattle.runs.specs.Steps.{bench_after}
-use Rattle.runs.specs.Run.{over, Told, run_refusal_with, unless_refused, finished_by, Ran}
+use Rattle.runs.specs.Run.{Finished, over, Told, run_refusal_with, unless_refused, finished_by, Ran}
 use Rattle.runs.proofs.Running.{with_none}
 use Rattle.exports.specs.Exports.{Answered}
 use Rattle.exports.proofs.Laws.{answered_run}

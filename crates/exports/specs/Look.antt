@@ -1,5 +1,4 @@
--- What the bench after a list of steps shows: its pose in degrees; by numbers its gate, and how many trains are present (document 01,
--- "Clock and arm" and "Cabinet"). Assumes nothing.
+-- What the bench after a list of steps shows: its pose in degrees; by numbers its gate, and how many trains are present. Assumes nothing.
 use Rattle.std.specs.Prelude.{ℕ, ◌≡◌, ◌&&◌, List, [], ◌∷◌, leb, Float}
 use Rattle.settings.specs.declared.Settings.{Settings}
 use Rattle.trains.specs.Table.{present_in}

@@ -1,7 +1,7 @@
-// The static library: what C or Rust programs call, over numbers and lent slices.
+//! The static library: what C or Rust programs call, over numbers and lent slices.
 #![tactic(auto)]
 
-ghost use Rattle.std.specs.Prelude.{◌≡◌, ◌≤◌, length};
+ghost use Rattle.std.specs.Prelude.{◌≡◌, ◌≤◌, ◌&&◌, leb, length};
 ghost use Rattle.settings.specs.Values.{settings_of};
 ghost use Rattle.runs.specs.declared.Feed.TheVariants.{ToBench};
 ghost use Rattle.runs.specs.Run.{steps_of, over, told, run_refusal};
@@ -20,16 +20,16 @@ ghost use Rattle.stepwise.specs.CabinetCalls.{cabinet_started, cabinet_called};
 ghost use Rattle.stepwise.specs.BenchCalls as benchCall;
 ghost use Rattle.stepwise.specs.BenchCalls.{bench_started, bench_called};
 ghost use Rattle.stepwise.specs.Shown.{posed, showed, pose_shown, gate_shown};
-ghost use Rattle.exports.specs.Exports.{Answered, CabinetAnswered, RecordAnswered, packed, pack_converted, ConvertAnswered, Reports};
+ghost use Rattle.exports.specs.Exports.{Answered, CabinetAnswered, RecordAnswered, pack, packed, pack_converted, ConvertAnswered, Reports};
 ghost use Rattle.exports.specs.State.{kind_number, bench_numbers, state_refusal, StateAnswered};
 ghost use Rattle.exports.specs.Look.{looks, look_refusal, LookAnswered};
 ghost use Rattle.exports.specs.Places.{cursor_of, cursor_in, flag, found_numbers, next_numbers, next_from, Placed};
 
 use bench::Bench;
-use converter::Converted;
-use settings::Verdict;
+use reader::Fault;
+use settings::{Settings, number};
 use stretches::{Cursor, Sort, Stretch};
-use trains::{Entry, Standing};
+use trains::Entry;
 
 // A bench under the settings, thirteen values in their order (one that is missing is 0, and so refused, 1), run through a list of steps
 // (`runs::run`): the refusal number of the run, 0 where it is taken;
@@ -49,50 +49,42 @@ pub extern "C" fn weqhaso_run(
         (length answers.old) (length orders.old) (length named.old)) result
         (told answers.old orders.old named.old) (told answers.new orders.new named.new) }
 {
-    let s = settings::of_values(values);
-    let r = runs::run(s, letters, numbers, readings, answers, orders, named);
-    let v = r.verdict;
-    settings::number(v)
+    let settings = Settings::of_values(values);
+    number(&runs::run(
+        &settings, letters, numbers, readings, answers, orders, named,
+    ))
 }
 
 // The kind of a train that is present, 1 to 4; 0 where it is away.
-fn kind_number(e: Entry) -> u32
-    ensures { result ≡ kind_number e }
+fn kind_number(entry: &Entry) -> u32
+    ensures { result ≡ kind_number entry.now }
 {
-    let standing = e.standing;
-    let kind = e.kind;
-    match standing {
-        Standing::Away => 0,
-        Standing::Coming(_) => stepwise::kind_as(kind),
-        Standing::Inside(_) => stepwise::kind_as(kind),
+    if entry.standing.is_present() {
+        stepwise::kind_as(entry.kind)
+    } else {
+        0
     }
 }
 
 // The bench by numbers: instant, angle, angle before and command, then of each entry of the table its train's number, kind, standing and
 // instant of approach.
-fn write_bench(b: Bench, state: &mut [u32])
+fn write_bench(bench: &Bench, state: &mut [u32])
     requires { 388 ≤ length state.old }
-    ensures { state.new ≡ over (bench_numbers b) state.old }
+    ensures { state.new ≡ over (bench_numbers bench.now) state.old }
 {
-    let motion = b.head.motion;
-    let control = motion.control;
-    let command = control.command;
-    let table = b.table;
-    state[0] = control.now;
-    state[1] = motion.angle as u32;
-    state[2] = motion.previous as u32;
-    state[3] = stepwise::command_number(command);
-    let mut place: usize = 0;
-    let mut i: usize = 4;
-    while place < 96 {
-        let e = table.shown_at(place);
-        let standing = e.standing;
-        state[i] = e.number as u32;
-        state[i + 1] = kind_number(e);
-        state[i + 2] = stepwise::standing_number(standing);
-        state[i + 3] = trains::since_of(standing);
-        place = place + 1;
-        i = i + 4;
+    let motion = bench.head.motion;
+    state[0] = motion.control.now;
+    state[1] = u32::from(motion.angle);
+    state[2] = u32::from(motion.previous);
+    state[3] = stepwise::command_number(motion.control.command);
+    let mut i = 4;
+    for place in 0..96 {
+        let entry = bench.table.shown_at(place);
+        state[i] = u32::from(entry.number);
+        state[i + 1] = kind_number(&entry);
+        state[i + 2] = stepwise::standing_number(entry.standing);
+        state[i + 3] = entry.standing.since();
+        i += 4;
     }
 }
 
@@ -117,29 +109,37 @@ pub extern "C" fn weqhaso_state(
         (told answers.old orders.old named.old) (told answers.new orders.new named.new)
         state.old state.new }
 {
-    let s = settings::of_values(values);
+    let settings = Settings::of_values(values);
     let space = 388 <= state.len();
-    let r = runs::run_with(s, letters, numbers, readings, answers, orders, named, space);
-    let v = r.verdict;
-    let k = settings::number(v);
-    if k == 0 {
-        write_bench(r.bench, state);
+    match runs::run_with(
+        &settings, letters, numbers, readings, answers, orders, named, space,
+    ) {
+        Ok(bench) => {
+            write_bench(&bench, state);
+            0
+        }
+        Err(refusal) => refusal.number(),
     }
-    k
 }
 
 // What the bench shows: the pose, then its gate by number and the trains present.
-fn write_look(b: Bench, pose: &mut [f32], look: &mut [u32])
+fn write_look(bench: &Bench, pose: &mut [f32], look: &mut [u32])
     requires { (2 ≤ length pose.old) × (2 ≤ length look.old) }
-    ensures { (pose.new ≡ over (posed b) pose.old) × (look.new ≡ over (looks b) look.old) }
+    ensures { (pose.new ≡ over (posed bench.now) pose.old) × (look.new ≡ over (looks bench.now) look.old) }
 {
-    let shown = b.pose();
-    let gate = b.gate();
-    let table = b.table;
+    let shown = bench.pose();
+    let gate = bench.gate();
     pose[0] = shown.angle;
     pose[1] = shown.change;
     look[0] = stepwise::gate_number(gate);
-    look[1] = table.present();
+    look[1] = bench.table.present();
+}
+
+// Whether there are places for a pose, and for a gate and a count.
+fn has_places(pose: usize, look: usize) -> bool
+    ensures { result ≡ (leb 2 pose && leb 2 look) }
+{
+    2 <= pose && 2 <= look
 }
 
 // A run as `weqhaso_run` does it, and what the bench after it shows: in the first two places of `pose` the angle and its change over the
@@ -165,15 +165,17 @@ pub extern "C" fn weqhaso_look(
         (told answers.old orders.old named.old) (told answers.new orders.new named.new)
         pose.old pose.new look.old look.new }
 {
-    let s = settings::of_values(values);
-    let space = (2 <= pose.len()) & (2 <= look.len());
-    let r = runs::run_with(s, letters, numbers, readings, answers, orders, named, space);
-    let v = r.verdict;
-    let k = settings::number(v);
-    if k == 0 {
-        write_look(r.bench, pose, look);
+    let settings = Settings::of_values(values);
+    let space = has_places(pose.len(), look.len());
+    match runs::run_with(
+        &settings, letters, numbers, readings, answers, orders, named, space,
+    ) {
+        Ok(bench) => {
+            write_look(&bench, pose, look);
+            0
+        }
+        Err(refusal) => refusal.number(),
     }
-    k
 }
 
 // A cabinet alone under the settings, taken through a list of what it hears (`alone::run`): the refusal number of the whole, 0 where it is
@@ -192,10 +194,10 @@ pub extern "C" fn weqhaso_cabinet(
         (length answers.old) (length orders.old) (length named.old)) result
         (told answers.old orders.old named.old) (told answers.new orders.new named.new) }
 {
-    let s = settings::of_values(values);
-    let r = alone::run(s, letters, numbers, answers, orders, named);
-    let v = r.verdict;
-    settings::number(v)
+    let settings = Settings::of_values(values);
+    number(&alone::run(
+        &settings, letters, numbers, answers, orders, named,
+    ))
 }
 
 // ---- a cabinet and a bench in words that the caller lends, one call a step
@@ -311,14 +313,20 @@ pub extern "C" fn weqhaso_record(
         (told answers.old orders.old named.old) (told answers.new orders.new named.new)
         out.old out.new }
 {
-    let s = settings::of_values(values);
-    let r = recording::record_run(s, letters, numbers, readings, answers, orders, named, out);
-    let answer = r.answer;
-    let recorder = r.recorder;
-    let k = runs::number_byte(answer);
-    let line = recorder::CURRENT.line_bytes();
-    let bytes = if k == 0 { recorder.at + line } else { 0 };
-    ((bytes as u64) % 72057594037927936) * 256 + (k as u64)
+    let settings = Settings::of_values(values);
+    match recording::record_run(
+        &settings, letters, numbers, readings, answers, orders, named, out,
+    ) {
+        Ok(recorder) => pack(recorder.at + recorder::CURRENT.line_bytes(), 0),
+        Err(refusal) => pack(0, refusal.number()),
+    }
+}
+
+// 256 times a count, of which 2 ^ 56 is too much, and a refusal number.
+fn pack(count: usize, number: u8) -> u64
+    ensures { result ≡ pack count number }
+{
+    (count as u64 % 72057594037927936) * 256 + u64::from(number)
 }
 
 // The verdict on a record text (`reader::read`): 256 times the line at fault, and the refusal number; 0 where it is accepted.
@@ -326,24 +334,24 @@ pub extern "C" fn weqhaso_record(
 pub extern "C" fn weqhaso_read(text: &[u8]) -> u64
     ensures { result ≡ packed (read_text current text.now) }
 {
-    let o = reader::read(text);
-    let v = o.verdict;
-    let line = o.line as u64;
-    (line % 72057594037927936) * 256 + (settings::number(v) as u64)
-}
-
-// 256 times the bytes written, or the line at fault, and the refusal number.
-fn pack_converted(c: Converted) -> u64
-    ensures { result ≡ pack_converted c }
-{
-    let v = c.verdict;
-    match v {
-        Verdict::Taken => ((c.bytes as u64) % 72057594037927936) * 256,
-        Verdict::Refused(k) => ((c.line as u64) % 72057594037927936) * 256 + (k as u64),
+    let outcome = reader::read(text);
+    match outcome.verdict {
+        Ok(()) => pack(0, 0),
+        Err(Fault { refusal, line }) => pack(line, refusal.number()),
     }
 }
 
-// A record text in document 01's form, turned into the form that the recorder writes (`converter::to_new`): 256 times the bytes written where it is
+// 256 times the bytes written, or the line at fault and the refusal number.
+fn pack_converted(converted: Result<usize, Fault>) -> u64
+    ensures { result ≡ pack_converted (turned converted) }
+{
+    match converted {
+        Ok(bytes) => pack(bytes, 0),
+        Err(fault) => pack(fault.line, fault.refusal.number()),
+    }
+}
+
+// A record text in the old form, turned into the form that the recorder writes (`converter::to_new`): 256 times the bytes written where it is
 // taken, else 256 times the line at fault and the refusal number.
 #[unsafe(no_mangle)]
 pub extern "C" fn weqhaso_to_new(text: &[u8], out: &mut [u8]) -> u64
@@ -366,8 +374,8 @@ pub extern "C" fn weqhaso_report(text: &[u8], out: &mut [u8]) -> u64
     ensures { Reports (report_of text.now) out.old result out.new }
 {
     match report::report(text, out) {
-        Ok(bytes) => (bytes as u64 % 72057594037927936) * 256,
-        Err(refusal) => refusal.number() as u64,
+        Ok(bytes) => pack(bytes, 0),
+        Err(refusal) => pack(0, refusal.number()),
     }
 }
 
