@@ -8,12 +8,12 @@ use Rattle.runs.specs.Run.{over}
 use Rattle.stretches.specs.declared.Cursor.{Cursor}
 use Rattle.stretches.specs.declared.Sort.{Sort}
 use Rattle.std.specs.Prelude.{Option, Some, None}
-use Rattle.stretches.specs.Span.{Span}
+use Rattle.stretches.specs.Stretch.{Stretch}
 use Rattle.stretches.specs.Walk.{Next, answered, Gives}
 use Rattle.exports.specs.Places.{cursor_in, flag, found_numbers, next_numbers, next_from, Placed}
 
 -- the numbers of an answer: its cursor's, and those of what is found
-pub numbers_answered : (found : Option Span) (c : Cursor) → next_numbers (answered found c) ≡ c.at ∷ c.now ∷ flag c.low ∷ c.inside ∷ found_numbers found
+pub numbers_answered : (found : Option Stretch) (c : Cursor) → next_numbers (answered found c) ≡ c.at ∷ c.now ∷ flag c.low ∷ c.inside ∷ found_numbers found
 numbers_answered None c = refl
 numbers_answered (Some x) c = refl
 

@@ -3,7 +3,7 @@ use Rattle.std.specs.Prelude.{ℕ, ◌≡◌, Bool, cond, List, [], ◌∷◌, l
 use Rattle.runs.specs.Run.{over}
 use Rattle.stretches.specs.declared.Cursor.{Cursor}
 use Rattle.stretches.specs.declared.Sort.{Sort}
-use Rattle.stretches.specs.Span.{Span}
+use Rattle.stretches.specs.Stretch.{Stretch}
 use Rattle.stretches.specs.Walk.{Next, ahead, next_of}
 
 -- place, instant, whether the arm is below 90 degrees (0 no), trains inside
@@ -28,7 +28,7 @@ next_numbers r =
     r.cursor.at ∷ r.cursor.now ∷ flag r.cursor.low ∷ r.cursor.inside ∷ found_number r.found r.stretch.running ∷ r.stretch.first ∷ r.stretch.last ∷ []
 
 -- what is found, its first and its last instant
-abbrev pub found_numbers : Option Span → List ℕ
+abbrev pub found_numbers : Option Stretch → List ℕ
 found_numbers None = 0 ∷ 0 ∷ 0 ∷ []
 found_numbers (Some x) = found_number true x.running ∷ x.first ∷ x.last ∷ []
 

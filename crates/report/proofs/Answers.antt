@@ -16,7 +16,7 @@ use Rattle.std.specs.Iterator.{YieldsFirst, Drains}
 use Rattle.std.proofs.lemmas.Iterator.Consumers.{YieldsList-from_first, count_from_yields_List}
 use Rattle.stretches.specs.declared.Sort.TheVariants.{Lowered, Occupied}
 use Rattle.stretches.specs.declared.Stretches.{Stretches}
-use Rattle.stretches.specs.Span.{Span}
+use Rattle.stretches.specs.Stretch.{Stretch}
 use Rattle.stretches.specs.Walk.{start_cursor, stretches_ahead}
 use Rattle.stretches.specs.Left.{stretches_left}
 use Rattle.report.specs.declared.joined.Joined.{Joined}
@@ -51,8 +51,8 @@ written_as {out = out} {after = after} {r = r} e w = subst (λ (l : List ℕ). R
 
 -- by going through them
 pub joined_counted : (t : List ℕ) (s : Stretches) (j : Joined) (n : ℕ) → stretches_left s ≡ stretches_ahead Occupied t start_cursor → joined_left j ≡ joined (stretches_left s) →
-    ((xs : List Span) × Drains (YieldsFirst joined_left) j xs × (n ≡ length xs)) → n ≡ length (os t)
-joined_counted t s j n p q r = count_from_yields_List j n r (YieldsList-from_first (λ (x : Span). x) joined_left (os t) (q ∙ ap joined p))
+    ((xs : List Stretch) × Drains (YieldsFirst joined_left) j xs × (n ≡ length xs)) → n ≡ length (os t)
+joined_counted t s j n p q r = count_from_yields_List j n r (YieldsList-from_first (λ (x : Stretch). x) joined_left (os t) (q ∙ ap joined p))
 
 -- ---- a run's report
 

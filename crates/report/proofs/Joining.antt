@@ -5,7 +5,7 @@ use mathlib.Core.Bool.{Bool, true, false, cond}
 use mathlib.Core.List.{List, [], ◌∷◌}
 use lib.ListN.{length}
 use Rattle.stretches.specs.declared.Sort.TheVariants.{Occupied}
-use Rattle.stretches.specs.Span.{Span}
+use Rattle.stretches.specs.Stretch.{Stretch}
 use Rattle.stretches.specs.Walk.{start_cursor, lines_in, stretches_ahead}
 use Rattle.stretches.proofs.Totals.{ahead_few, AllBy, ahead_by}
 use Rattle.report.specs.Touching.{touch, join, joined_from, joined}
@@ -17,7 +17,7 @@ pub os_few : (t : List ℕ) → length (os t) ≤ lines_in (length t - start_cur
 os_few t = omega (arith, joined_few (stretches_ahead Occupied t start_cursor), ahead_few Occupied t start_cursor)
 
 -- no later than those that are joined
-from_by : (m : ℕ) (x : Span) (ys : List Span) → x.last ≤ m → AllBy m ys → AllBy m (joined_from x ys)
+from_by : (m : ℕ) (x : Stretch) (ys : List Stretch) → x.last ≤ m → AllBy m ys → AllBy m (joined_from x ys)
 unfolding joined_from
 from_by m x [] h a = (h, tt)
 from_by m x (y ∷ ys) h a = go (touch x y) (from_by m (join x y) ys a.0 a.1) (from_by m y ys a.0 a.1)
@@ -26,7 +26,7 @@ from_by m x (y ∷ ys) h a = go (touch x y) (from_by m (join x y) ys a.0 a.1) (f
     go true p q = p
     go false p q = (h, q)
 
-joined_by : (m : ℕ) (xs : List Span) → AllBy m xs → AllBy m (joined xs)
+joined_by : (m : ℕ) (xs : List Stretch) → AllBy m xs → AllBy m (joined xs)
 joined_by m [] a = tt
 joined_by m (x ∷ xs) a = from_by m x xs a.0 a.1
 

@@ -12,7 +12,7 @@ use Rattle.std.proofs.lemmas.List.{drop-drop, take-append-drop}
 use Rattle.std.proofs.lemmas.Slice.{take-put_mid, drop-put_mid}
 use Rattle.lines.specs.Bytes.{splice}
 use Rattle.stretches.specs.declared.Sort.TheVariants as sort
-use Rattle.stretches.specs.Span.{Span}
+use Rattle.stretches.specs.Stretch.{Stretch}
 use Rattle.stretches.specs.Walk.{start_cursor}
 use Rattle.stretches.proofs.Totals.{AllBy, ahead_by}
 use Rattle.report.specs.declared.row.Row.{Row}
@@ -24,7 +24,7 @@ use Rattle.report.proofs.Joining.{os_by}
 
 -- ---- how many rows, and how long
 
-pub length_rows : (xs ys : List Span) → length (rows xs ys) ≡ length xs + length ys
+pub length_rows : (xs ys : List Stretch) → length (rows xs ys) ≡ length xs + length ys
 unfolding rows
 length_rows [] [] = refl
 length_rows (x ∷ xs) [] = let l = length_rows xs [] in omega arith
@@ -60,7 +60,7 @@ abbrev pub RowsBy : ℕ → List Row → Type 0
 RowsBy m [] = Unit {0}
 RowsBy m (r ∷ rs) = ((stretch_of r).last ≤ m) × RowsBy m rs
 
-rows_by : (m : ℕ) (xs ys : List Span) → AllBy m xs → AllBy m ys → RowsBy m (rows xs ys)
+rows_by : (m : ℕ) (xs ys : List Stretch) → AllBy m xs → AllBy m ys → RowsBy m (rows xs ys)
 unfolding rows
 rows_by m [] [] a b = tt
 rows_by m (x ∷ xs) [] a b = (a.0, rows_by m xs [] a.1 b)

@@ -6,7 +6,7 @@ use mathlib.Core.Bool.{Bool, true, false, cond}
 use mathlib.Core.List.{List, [], ◌∷◌}
 use lib.Dec.{leb}
 use borrow.Author.Tests.{leb-true, leb-false}
-use Rattle.stretches.specs.Span.{Span}
+use Rattle.stretches.specs.Stretch.{Stretch}
 use Rattle.stretches.specs.Stretches.{lowered_stretches, Spaced}
 use Rattle.stretches.proofs.Spaced.{spaced_lower, lowered_spaced}
 use Rattle.report.specs.Touching.{joined_stretches}
@@ -23,22 +23,22 @@ abbrev since_o : Row → ℕ
 since_o (Lowered x) = x.first
 since_o (Occupied x) = x.first + 1
 
-before_o : (r : Row) (o : Span) → since_o r ≤ o.first → Before r (Occupied o)
+before_o : (r : Row) (o : Stretch) → since_o r ≤ o.first → Before r (Occupied o)
 before_o (Lowered x) o l = l
 before_o (Occupied x) o l = omega arith
 
 -- stretches that may follow a row
-abbrev After : Row → List Span → List Span → Type 0
+abbrev After : Row → List Stretch → List Stretch → Type 0
 After r ns os = Spaced 1 (first_of r + 1) ns × Spaced 1 (since_o r) os
 
 -- those after the first
-next : (a : ℕ) (x : Span) (xs : List Span) → Spaced 1 a (x ∷ xs) → Spaced 1 (x.first + 1) xs
+next : (a : ℕ) (x : Stretch) (xs : List Stretch) → Spaced 1 a (x ∷ xs) → Spaced 1 (x.first + 1) xs
 next a x xs p = spaced_lower 1 (x.first + 1) (x.last + 1) xs (omega (arith, p.1)) p.2
 
-tail : (a : ℕ) (x : Span) (xs : List Span) → Spaced 1 a (x ∷ xs) → Spaced 1 a xs
+tail : (a : ℕ) (x : Stretch) (xs : List Stretch) → Spaced 1 a (x ∷ xs) → Spaced 1 a xs
 tail a x xs p = spaced_lower 1 a (x.first + 1) xs (omega (arith, p.0)) (next a x xs p)
 
-before_rows : (r : Row) (ns os : List Span) → After r ns os → BeforeAll r (rows ns os)
+before_rows : (r : Row) (ns os : List Stretch) → After r ns os → BeforeAll r (rows ns os)
 unfolding rows
 before_rows r [] [] p = tt
 before_rows r (n ∷ ns) [] p = (omega (arith, p.0.0), before_rows r ns [] (tail (first_of r + 1) n ns p.0, tt))
@@ -50,7 +50,7 @@ before_rows r (n ∷ ns) (o ∷ os) p =
     go true x y = (omega (arith, p.0.0), x)
     go false x y = (before_o r o p.1.0, y)
 
-rows_rise : (a b : ℕ) (ns os : List Span) → Spaced 1 a ns → Spaced 1 b os → Rises (rows ns os)
+rows_rise : (a b : ℕ) (ns os : List Stretch) → Spaced 1 a ns → Spaced 1 b os → Rises (rows ns os)
 unfolding rows
 rows_rise a b [] [] p q = tt
 rows_rise a b (n ∷ ns) [] p q = (before_rows (Lowered n) ns [] (next a n ns p, tt), rows_rise (n.first + 1) b ns [] (next a n ns p) tt)
@@ -64,27 +64,27 @@ rows_rise a b (n ∷ ns) (o ∷ os) p q =
 
 -- ---- of each kind the rows are its stretches
 
-rows_n_law : (ns os : List Span) → rows_n (rows ns os) ≡ ns
+rows_n_law : (ns os : List Stretch) → rows_n (rows ns os) ≡ ns
 unfolding rows
 rows_n_law [] [] = refl
-rows_n_law (n ∷ ns) [] = ap (λ (l : List Span). n ∷ l) (rows_n_law ns [])
+rows_n_law (n ∷ ns) [] = ap (λ (l : List Stretch). n ∷ l) (rows_n_law ns [])
 rows_n_law [] (o ∷ os) = rows_n_law [] os
 rows_n_law (n ∷ ns) (o ∷ os) = go (leb n.first o.first) (rows_n_law ns (o ∷ os)) (rows_n_law (n ∷ ns) os)
   where
     go : (b : Bool) → rows_n (rows ns (o ∷ os)) ≡ ns → rows_n (rows (n ∷ ns) os) ≡ n ∷ ns → rows_n (cond b (Lowered n ∷ rows ns (o ∷ os)) (Occupied o ∷ rows (n ∷ ns) os)) ≡ n ∷ ns
-    go true x y = ap (λ (l : List Span). n ∷ l) x
+    go true x y = ap (λ (l : List Stretch). n ∷ l) x
     go false x y = y
 
-rows_o_law : (ns os : List Span) → rows_o (rows ns os) ≡ os
+rows_o_law : (ns os : List Stretch) → rows_o (rows ns os) ≡ os
 unfolding rows
 rows_o_law [] [] = refl
 rows_o_law (n ∷ ns) [] = rows_o_law ns []
-rows_o_law [] (o ∷ os) = ap (λ (l : List Span). o ∷ l) (rows_o_law [] os)
+rows_o_law [] (o ∷ os) = ap (λ (l : List Stretch). o ∷ l) (rows_o_law [] os)
 rows_o_law (n ∷ ns) (o ∷ os) = go (leb n.first o.first) (rows_o_law ns (o ∷ os)) (rows_o_law (n ∷ ns) os)
   where
     go : (b : Bool) → rows_o (rows ns (o ∷ os)) ≡ o ∷ os → rows_o (rows (n ∷ ns) os) ≡ os → rows_o (cond b (Lowered n ∷ rows ns (o ∷ os)) (Occupied o ∷ rows (n ∷ ns) os)) ≡ o ∷ os
     go true x y = x
-    go false x y = ap (λ (l : List Span). o ∷ l) y
+    go false x y = ap (λ (l : List Stretch). o ∷ l) y
 
 -- ---- of a run
 

@@ -10,7 +10,7 @@ use borrow.Author.Tests.{leb-true, le-leb, lt-leb, eqb-true, eqb-false, eq-eqb}
 use Rattle.lines.proofs.Tests.{both, refuted}
 use Rattle.runs.specs.declared.Step.{Step}
 use Rattle.runs.specs.History.{History, instant}
-use Rattle.stretches.specs.Span.{Span}
+use Rattle.stretches.specs.Stretch.{Stretch}
 use Rattle.stretches.specs.Stretches.{ended, none, since, moments, stretches_from, some_inside, occupied_stretches, Spaced}
 use Rattle.stretches.proofs.Spaced.{Steady, moments_steady, occupied_spaced}
 use Rattle.report.specs.Touching.{joined_stretches, how_many, inside_now, inside_at, inside_during, inside_last, RunOn, JoinedOnce, JoinedAlways}
@@ -63,10 +63,10 @@ module _ (n a : ℕ) where
 -- ---- off the moments
 
 -- stretches with a train inside, after a moment with none, and after one of a stretch that goes on since f, at the instant a
-abbrev outside : List History → List Span
+abbrev outside : List History → List Stretch
 outside hs = stretches_from some_inside none hs
 
-abbrev going : ℕ → ℕ → List History → List Span
+abbrev going : ℕ → ℕ → List History → List Stretch
 going f a hs = stretches_from some_inside (since f a) hs
 
 module _ (n : ℕ) where
@@ -161,7 +161,7 @@ module _ (xs : List Step) where
         running = joined_run (inside_last false (moments xs)) (occupied_stretches xs) (inside_run (moments xs)).0;
       }
 
-  run_only : (ys : List Span) → JoinedOnce xs ys → ys ≡ joined_stretches xs
+  run_only : (ys : List Stretch) → JoinedOnce xs ys → ys ≡ joined_stretches xs
   run_only ys p =
       let q = run_joined in
       spaced_only (inside_last false (moments xs)) ys (joined_stretches xs) p.apart q.apart

@@ -1,6 +1,6 @@
 -- What the iterators still have. Assumes nothing.
 use Rattle.std.specs.Prelude.{List, [], ◌∷◌, Option, Some, None}
-use Rattle.stretches.specs.Span.{Span}
+use Rattle.stretches.specs.Stretch.{Stretch}
 use Rattle.stretches.specs.Left.{stretches_left}
 use Rattle.report.specs.declared.joined.Joined.{Joined}
 use Rattle.report.specs.declared.row.Row.{Row}
@@ -9,11 +9,11 @@ use Rattle.report.specs.Touching.{joined}
 use Rattle.report.specs.Report.{rows}
 
 -- the next of them before the others; with none there are no others
-abbrev pub before : Option Span → List Span → List Span
+abbrev pub before : Option Stretch → List Stretch → List Stretch
 before None xs = []
 before (Some x) xs = x ∷ xs
 
-abbrev pub joined_left : Joined → List Span
+abbrev pub joined_left : Joined → List Stretch
 joined_left s = joined (before s.next (stretches_left s.later))
 
 abbrev pub rows_left : Rows → List Row

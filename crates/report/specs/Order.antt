@@ -3,7 +3,7 @@
 -- Assumes nothing.
 use Rattle.std.specs.Prelude.{ℕ, ◌<◌, ◌≤◌, ◌≡◌, List, [], ◌∷◌, ◌++◌, length}
 use Rattle.runs.specs.declared.Step.{Step}
-use Rattle.stretches.specs.Span.{Span}
+use Rattle.stretches.specs.Stretch.{Stretch}
 use Rattle.stretches.specs.Stretches.{lowered_stretches, below}
 use Rattle.report.specs.Touching.{joined_stretches}
 use Rattle.report.specs.declared.row.Row.{Row}
@@ -32,12 +32,12 @@ Rises [] = Unit {0}
 Rises (r ∷ rs) = BeforeAll r rs × Rises rs
 
 -- the stretches of one kind, in the order of the rows
-abbrev pub rows_n : List Row → List Span
+abbrev pub rows_n : List Row → List Stretch
 rows_n [] = []
 rows_n (Lowered x ∷ rs) = x ∷ rows_n rs
 rows_n (Occupied x ∷ rs) = rows_n rs
 
-abbrev pub rows_o : List Row → List Span
+abbrev pub rows_o : List Row → List Stretch
 rows_o [] = []
 rows_o (Lowered x ∷ rs) = rows_o rs
 rows_o (Occupied x ∷ rs) = x ∷ rows_o rs

@@ -12,7 +12,7 @@ use Rattle.reader.specs.Round.{run_of}
 use Rattle.report.specs.declared.NoSpace.{NoSpace}
 use Rattle.report.specs.declared.row.Row.{Row}
 use Rattle.report.specs.declared.row.Row.TheVariants.{Lowered, Occupied}
-use Rattle.stretches.specs.Span.{Span}
+use Rattle.stretches.specs.Stretch.{Stretch}
 use Rattle.stretches.specs.Stretches.{lowered_stretches, below}
 use Rattle.report.specs.Touching.{joined_stretches}
 
@@ -23,10 +23,10 @@ unfoldable pub report_line : ℕ → ℕ → ℕ → List ℕ
 report_line n m c = numeral 8 n ++ (numeral 8 m ++ (32 ∷ c ∷ 10 ∷ []))
 
 -- a stretch's letter: the small one where it is still running
-abbrev pub stretch_letter : ℕ → Span → ℕ
+abbrev pub stretch_letter : ℕ → Stretch → ℕ
 stretch_letter c x = cond x.running (c + 32) c
 
-abbrev pub stretch_line : ℕ → Span → List ℕ
+abbrev pub stretch_line : ℕ → Stretch → List ℕ
 stretch_line c x = report_line x.first x.last (stretch_letter c x)
 
 -- a row of a report: an N (or n) stretch, or an O (or o) stretch
@@ -40,7 +40,7 @@ lines_of [] = []
 lines_of (r ∷ rs) = row_line r ++ lines_of rs
 
 -- the stretches of both kinds by first instant, N before O if equal, stretches of one kind as they happened (that they are in that order: Order)
-unfoldable pub rows : List Span → List Span → List Row
+unfoldable pub rows : List Stretch → List Stretch → List Row
 rows [] [] = []
 rows (n ∷ ns) [] = Lowered n ∷ rows ns []
 rows [] (o ∷ os) = Occupied o ∷ rows [] os

@@ -3,40 +3,40 @@
 use Rattle.std.specs.Prelude.{ℕ, ◌+◌, ◌≡◌, Bool, true, false, cond, ◌&&◌, ◌||◌, List, [], ◌∷◌, ◌++◌, leb, eqb}
 use Rattle.runs.specs.declared.Step.{Step}
 use Rattle.runs.specs.History.{History, instant}
-use Rattle.stretches.specs.Span.{Span}
+use Rattle.stretches.specs.Stretch.{Stretch}
 use Rattle.stretches.specs.Stretches.{moments, some_inside, occupied_stretches, Spaced}
 
 -- ---- joining
 
 -- the second begins at the instant where the first ends
-abbrev pub touch : Span → Span → Bool
+abbrev pub touch : Stretch → Stretch → Bool
 touch x y = eqb x.last y.first
 
 -- the two as one: still running where the second is
-abbrev pub join : Span → Span → Span
+abbrev pub join : Stretch → Stretch → Stretch
 join x y = record { first = x.first; last = y.last; running = y.running }
 
 -- a stretch, and those after it: one that touches is joined to it, and the next is held against the two as one, so that a chain is one stretch
-unfoldable pub joined_from : Span → List Span → List Span
+unfoldable pub joined_from : Stretch → List Stretch → List Stretch
 joined_from x [] = x ∷ []
 joined_from x (y ∷ ys) = cond (touch x y) (joined_from (join x y) ys) (x ∷ joined_from y ys)
 
-abbrev pub joined : List Span → List Span
+abbrev pub joined : List Stretch → List Stretch
 joined [] = []
 joined (x ∷ xs) = joined_from x xs
 
 -- O: a run's stretches with some train inside, joined
-abbrev pub joined_stretches : List Step → List Span
+abbrev pub joined_stretches : List Step → List Stretch
 joined_stretches xs = joined (occupied_stretches xs)
 
 -- ---- what joining gives
 
 -- the instants m to n lie in a stretch
-abbrev pub lie_in : ℕ → ℕ → Span → Bool
+abbrev pub lie_in : ℕ → ℕ → Stretch → Bool
 lie_in m n x = leb x.first m && leb n x.last
 
 -- in how many of these they lie
-unfoldable pub how_many : ℕ → ℕ → List Span → ℕ
+unfoldable pub how_many : ℕ → ℕ → List Stretch → ℕ
 how_many m n [] = 0
 how_many m n (x ∷ xs) = cond (lie_in m n x) 1 0 + how_many m n xs
 
@@ -61,13 +61,13 @@ inside_last b [] = b
 inside_last b (h ∷ hs) = inside_last (some_inside h) hs
 
 -- the last of these stretches is still running exactly if b, and all before it have ended
-abbrev pub RunOn : Bool → List Span → Type 0
+abbrev pub RunOn : Bool → List Stretch → Type 0
 RunOn b [] = b ≡ false
 RunOn b (x ∷ []) = x.running ≡ b
 RunOn b (x ∷ y ∷ ys) = (x.running ≡ false) × RunOn b (y ∷ ys)
 
 -- what the stretches ys say of the moments of a run xs
-pub record JoinedOnce (xs : List Step) (ys : List Span) : Type 0 where
+pub record JoinedOnce (xs : List Step) (ys : List Stretch) : Type 0 where
   -- no two touch: each begins after the instant where the one before it ended
   pub apart : Spaced 1 0 ys
   -- an instant with a train inside, at whichever of its moments, lies in just one of them, and any other instant in none
@@ -84,4 +84,4 @@ pub record JoinedOnce (xs : List Step) (ys : List Span) : Type 0 where
 -- it holds of the joined stretches of every run, and of no other stretches
 pub record JoinedAlways : Type 0 where
   pub holds : (xs : List Step) → JoinedOnce xs (joined_stretches xs)
-  pub only : (xs : List Step) (ys : List Span) → JoinedOnce xs ys → ys ≡ joined_stretches xs
+  pub only : (xs : List Step) (ys : List Stretch) → JoinedOnce xs ys → ys ≡ joined_stretches xs

@@ -1,4 +1,4 @@
-pub mod Span
+pub mod Stretch
 pub mod Stretches
 pub mod Walk
 pub mod Left

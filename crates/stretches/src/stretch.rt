@@ -15,9 +15,9 @@ pub struct Stretch {
 
 impl Model for Stretch {
     ghost use Rattle.std.specs.Prelude.{◌≤◌, ◌<◌, ◌^◌};
-    ghost use Rattle.stretches.specs.Span.{Span};
+    ghost use Rattle.stretches.specs.Stretch.{Stretch};
 
-    ghost Value = { Span };
+    ghost Value = { Stretch };
 
     ghost view = { λ s. record { first = s.first; last = s.last; running = s.running } };
 
