@@ -1,5 +1,7 @@
 -- Laws of counts: so many bytes are at a buffer's start, and no text is longer than the program's buffers. Assumes nothing.
-use Rattle.std.proofs.Common.{◌≡◌, ℕ, ◌+◌, ◌-◌, ◌*◌, ◌/◌, ◌≤◌, Bool, true, false, cond, eqb, leb, List, [], length, sym, refl, ap, ◌∙◌, subst, arith, length-append, length-drop, length-take, le-leb, leb-true}
+use Rattle.std.proofs.Common.{◌≡◌, ℕ, ◌+◌, ◌-◌, ◌*◌, ◌/◌, ◌≤◌, Bool, true, false, cond, eqb, leb, List, [], ◌++◌, take, min, length, sym, refl, ap, ◌∙◌, subst, arith, length-append, length-drop, length-take, le-leb, leb-true}
+use Rattle.std.proofs.lemmas.List.{take_min}
+use Rattle.std.proofs.Math.Seq.{take-append-add}
 use Rattle.gate.specs.Held.{IsPrefixLen}
 use Rattle.settings.specs.declared.Verdict.{Verdict}
 use Rattle.settings.specs.declared.Verdict.TheVariants.{Taken, Refused}
@@ -39,6 +41,13 @@ report_held {lines} {out} {r} {after} h w =
 -- what a line of the bench's input gives is at its buffer's start
 pub given_held : (out after : List ℕ) {r g : Given} → r ≡ g → g.bytes ≤ length out → length after ≡ length out → IsPrefixLen r.bytes after
 given_held out after p h l = counted _ _ (omega (arith, ap (λ (x : Given). x.bytes) p))
+
+-- what is held of a line: as many of the next bytes as there is space for
+pub held_more : (xs ys : List ℕ) (n room : ℕ) → room + length xs ≡ n → xs ++ take (min (length ys) room) ys ≡ take n (xs ++ ys)
+held_more xs ys n room e =
+    let whole : n ≡ length xs + room = omega arith in
+    let least : min (length ys) room ≡ min room (length ys) = omega arith in
+    rw (whole, take-append-add xs ys room, least, take_min room ys)
 
 -- ---- a text in the other form
 
