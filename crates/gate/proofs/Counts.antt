@@ -1,6 +1,8 @@
 -- Laws of counts: so many bytes are at a buffer's start, and no text is longer than the program's buffers. Assumes nothing.
-use Rattle.std.proofs.Common.{◌≡◌, ℕ, ◌+◌, ◌-◌, ◌*◌, ◌/◌, ◌≤◌, Bool, true, false, cond, eqb, leb, List, [], length, sym, refl, ap, ◌∙◌, subst, arith, length-append, length-drop, length-take, Ok, Err, le-leb, leb-true}
+use Rattle.std.proofs.Common.{◌≡◌, ℕ, ◌+◌, ◌-◌, ◌*◌, ◌/◌, ◌≤◌, Bool, true, false, cond, eqb, leb, List, [], ◌++◌, take, min, length, sym, refl, ap, ◌∙◌, subst, arith, length-append, length-drop, length-take, Ok, Err, le-leb, leb-true}
 use Rattle.std.specs.Prelude.{Result, IsOk, IfOk}
+use Rattle.std.proofs.lemmas.List.{take_min}
+use Rattle.std.proofs.Math.Seq.{take-append-add}
 use Rattle.gate.specs.Held.{IsPrefixLen}
 use Rattle.settings.specs.Refusal.{Taken, Refused, Verdict}
 use Rattle.lines.specs.declared.Layout.{Layout}
@@ -50,6 +52,13 @@ report_held {lines} {out} {r} {n} {after} h e w =
 pub given_held : (out after : List ℕ) {l : Live} (r : Result ℕ Refusal) {g : Given} → given r l ≡ g → g.bytes ≤ length out → length after ≡ length out → IfOk r (λ n. IsPrefixLen n after)
 given_held out after (Ok n) p h l = counted n after (omega (arith, ap (λ (x : Given). x.bytes) p))
 given_held out after (Err e) p h l = tt
+
+-- what is held of a line: as many of the next bytes as there is space for
+pub held_more : (xs ys : List ℕ) (n room : ℕ) → room + length xs ≡ n → xs ++ take (min (length ys) room) ys ≡ take n (xs ++ ys)
+held_more xs ys n room e =
+    let whole : n ≡ length xs + room = omega arith in
+    let least : min (length ys) room ≡ min room (length ys) = omega arith in
+    rw (whole, take-append-add xs ys room, least, take_min room ys)
 
 -- ---- a text in the other form
 

@@ -1,7 +1,7 @@
 //! `gate bench`: lines of settings and steps as they come, the record's lines as they are made, refusals on standard error. What a line gives is
 //! `live`'s; here lines are gathered from reads, and what they give is written before the next read, and before a refusal is said.
 
-ghost use Rattle.std.specs.Prelude.{◌≡◌, ◌+◌, ◌≤◌, IfOk, length};
+ghost use Rattle.std.specs.Prelude.{◌≡◌, ◌+◌, ◌≤◌, ◌++◌, IfOk, take};
 ghost use Rattle.gate.specs.Held.{IsPrefixLen};
 
 use crate::words::{put_out, say_failure, say_refusal};
@@ -99,11 +99,12 @@ impl<'a, R: Print + Eprint + AllocGlobal> Keyboard<'a, R> {
     }
 
     /// These bytes after those that are held, as many as there is space for.
-    fn hold(&mut self, bytes: &[u8]) {
+    fn hold(&mut self, bytes: &[u8])
+        ensures { self.new.line.items ≡ take 1001 (self.old.line.items ++ bytes.now) }
+    {
         let room = self.line.remaining_capacity();
-        let _ = self
-            .line
-            .try_extend_from_slice(&bytes[..bytes.len().min(room)]);
+        let more = &bytes[..bytes.len().min(room)];
+        self.line.try_extend_from_slice(more).unwrap();
     }
 
     /// The line that is held has ended: its lines of the record are to go out, or its refusal is said.
