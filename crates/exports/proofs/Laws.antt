@@ -1,6 +1,7 @@
 -- What the contracts of `runs::run`, `alone::run`, `recording::record_run` and `report::report` say by the number of their answers. Assumes nothing.
 use Rattle.std.specs.Prelude.{None}
-use Prim.Native.Nat.{ℕ, zero, suc, ◌+◌, ◌≤◌}
+use Prim.Native.Nat.{ℕ, zero, suc, ◌+◌, ◌≤◌, ◌<◌}
+use borrow.Author.Tests.{leb-true}
 use native.Mathlib.Omega.{arith}
 use mathlib.Core.Path.{◌≡◌, refl, sym, ap, ◌∙◌}
 use mathlib.Core.Bool.{Bool, true, false, cond}
@@ -9,6 +10,9 @@ use mathlib.Core.List.{List, []}
 use lib.ListN.{length}
 use Rattle.settings.specs.declared.Settings.{Settings}
 use Rattle.settings.specs.Settings.{number_of}
+use Rattle.settings.specs.Refusal as refusals
+use Rattle.settings.specs.declared.refusal.Refusal.{Refusal}
+use Rattle.settings.specs.declared.refusal.Refusal.TheVariants.{SettingOutOfRange, EarliestTooSoon, AheadTooSmall, BehindTooSmall, NoSuchTrain, NotAway, NotComing, TooEarly, NotInside, ClockAtEnd, TrainAtLatest, NotAReading, MovementRule, NoSpace, NotInColumns, NotAsRecorded, TableFull, NotInOldForm}
 use Rattle.cabinet.specs.Cabinet as cabinet
 use Rattle.cabinet.specs.Cabinet.{Taken}
 use Rattle.runs.specs.declared.Step.{Step}
@@ -16,11 +20,13 @@ use Rattle.runs.specs.Run.{Finished, Told, finished_by, unless_refused, Ran}
 use Rattle.runs.specs.Claims.{Heard}
 use Rattle.alone.specs.Alone.{Ended, ended_by, AloneRan}
 use Rattle.lines.specs.Layout.{line_bytes}
-use Rattle.recorder.specs.Text.{current, text}
+use Rattle.recorder.specs.Text.{current, head_bytes, text}
+use Rattle.runs.specs.declared.Feed.TheVariants.{ToBench}
+use Rattle.runs.proofs.Running.{with_none, run_accepted}
 use Rattle.recorder.specs.Recorder.{Recorded, start_in}
 use Rattle.recorder.specs.Recording.{run_so_far}
-use Rattle.recording.specs.RunRecorded.{run_gives, run_leaves, RunRecorded}
-use Rattle.recorder.proofs.Recording.{spliced_always, ends_always}
+use Rattle.recording.specs.RunRecorded.{run_gives, run_leaves, record_refusal, RunRecorded}
+use Rattle.recorder.proofs.Recording.{head_accepts, spliced_always, ends_always}
 use Rattle.lines.specs.Bytes.{fits}
 use Rattle.report.specs.Report.{Reported, written_bytes, short_buffer, ReportWritten}
 use Rattle.exports.specs.Exports.{Answered, CabinetAnswered, pack, bytes_of, RecordAnswered, pack_converted, ConvertAnswered, Reports}
@@ -51,7 +57,39 @@ answered_alone s xs k r old new n ran e =
     go zero = refl
     go (suc k) = refl
 
+-- no refusal has the number 0
+pub number_some : (r : Refusal) → refusals.number_of r ≡ 0 → ⊥
+number_some r e = go r (omega (arith, e))
+  where
+    go : (r : Refusal) → refusals.number_of r < 1 → ⊥
+    go SettingOutOfRange h = omega arith
+    go EarliestTooSoon h = omega arith
+    go AheadTooSmall h = omega arith
+    go BehindTooSmall h = omega arith
+    go NoSuchTrain h = omega arith
+    go NotAway h = omega arith
+    go NotComing h = omega arith
+    go TooEarly h = omega arith
+    go NotInside h = omega arith
+    go ClockAtEnd h = omega arith
+    go TrainAtLatest h = omega arith
+    go NotAReading h = omega arith
+    go MovementRule h = omega arith
+    go NoSpace h = omega arith
+    go NotInColumns h = omega arith
+    go NotAsRecorded h = omega arith
+    go TableFull h = omega arith
+    go NotInOldForm h = omega arith
+
 -- ---- a recording
+
+-- one that nothing refuses: the start is taken
+pub record_starts : (s : Settings) (letters : List ℕ) (numbers readings answers orders named : ℕ) (d : List ℕ) →
+    record_refusal s letters numbers readings answers orders named (length d) ≡ 0 → start_in s d ≡ Taken None
+unfolding record_refusal
+record_starts s letters numbers readings answers orders named d ok =
+    let r = with_none s letters numbers readings answers orders named _ ok in
+    head_accepts current s d (run_accepted ToBench s letters numbers readings answers orders named r.0) (leb-true (head_bytes current + line_bytes current) _ r.1)
 
 module _ (s : Settings) (xs : List Step) (d : List ℕ) where
   -- the number of what comes back
