@@ -12,8 +12,7 @@ use Rattle.lines.specs.Bytes.{splice}
 use Rattle.lines.proofs.Places.{wrote_only, kept_only}
 use Rattle.runs.specs.History.{history}
 use Rattle.recorder.specs.Text.{head_bytes}
-use Rattle.reader.specs.declared.Outcome.{Outcome}
-use Rattle.reader.specs.Read.{read_text}
+use Rattle.reader.specs.Read.{Outcome, read_text}
 use Rattle.reader.specs.Round.{run_of}
 use Rattle.reader.proofs.Into.{accepted_steps}
 use Rattle.reader.proofs.Round.{accepted_written_law}

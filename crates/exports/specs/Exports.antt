@@ -14,7 +14,7 @@ use Rattle.recorder.specs.Recording.{step_refusals_in, orders_in, run_so_far}
 use Rattle.lines.specs.declared.Layout.{Layout}
 use Rattle.lines.specs.Place.{WritesOnly}
 use Rattle.lines.specs.Bytes.{fits, splice}
-use Rattle.reader.specs.declared.Outcome.{Outcome}
+use Rattle.reader.specs.Read.{Outcome}
 use Rattle.converter.specs.declared.Converted.{Converted}
 use Rattle.converter.specs.Convert.{other_text, converted, is_taken}
 use Rattle.converter.specs.Restore.{Restores}

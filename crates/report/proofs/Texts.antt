@@ -11,10 +11,9 @@ use Rattle.settings.specs.Values.{no_settings}
 use Rattle.settings.specs.Refusal.{Taken, Refused}
 use Rattle.lines.specs.Layout.{line_bytes, first_line, last_line}
 use Rattle.lines.specs.Bytes.{starts}
-use Rattle.reader.specs.declared.Outcome.{Outcome}
 use Rattle.reader.specs.declared.Progress.{Progress}
 use Rattle.recorder.specs.Text.{current, first_step}
-use Rattle.reader.specs.Read.{fresh_progress, judged, counted, refused_at, is_nothing, ended_by, scan_of, read_from, read_text}
+use Rattle.reader.specs.Read.{Outcome, fresh_progress, judged, counted, refused_at, is_nothing, ended_by, scan_of, read_from, read_text}
 use Rattle.reader.specs.Round.{run_of}
 use Rattle.report.specs.Report.{refusal_report, report_of, run_report}
 
