@@ -8,12 +8,15 @@ use lib.Dec.{ltb, leb, eqb}
 use lib.ListN.{length, drop}
 use borrow.Author.Tests.{lt-ltb, le-ltb}
 use Rattle.settings.specs.Values.{no_settings}
-use Rattle.settings.specs.Refusal.{Taken, Refused}
+use Rattle.std.specs.Prelude.{Ok, Err}
+use Rattle.settings.specs.Refusal.{Taken, Refused, number_of}
 use Rattle.lines.specs.Layout.{line_bytes, first_line, last_line}
 use Rattle.lines.specs.Bytes.{starts}
 use Rattle.reader.specs.declared.Progress.{Progress}
+use Rattle.reader.specs.declared.Fault.{Fault}
+use Rattle.reader.specs.declared.Outcome as reading
 use Rattle.recorder.specs.Text.{current, first_step}
-use Rattle.reader.specs.Read.{Outcome, fresh_progress, judged, counted, refused_at, is_nothing, ended_by, scan_of, read_from, read_text}
+use Rattle.reader.specs.Read.{Outcome, outcome, verdict_in, line_at_fault, fresh_progress, judged, counted, refused_at, is_nothing, ended_by, scan_of, read_from, read_text}
 use Rattle.reader.specs.Round.{run_of}
 use Rattle.report.specs.Report.{refusal_report, report_of, run_report}
 
@@ -54,24 +57,27 @@ text_line t = go (starts (first_line current) t) (read_from current (length t) 2
 
 -- ---- a text's report
 
-module _ (t : List ℕ) (o : Outcome) (few : length t ≤ 65535) (r : o ≡ read_text current t) where
-  pub taken_says : o.verdict ≡ Taken → (read_text current t).verdict ≡ Taken
-  taken_says e = ap (λ (x : Outcome). x.verdict) (sym r) ∙ e
+module _ (t : List ℕ) (o : reading.Outcome) (few : length t ≤ 65535) (r : outcome o ≡ read_text current t) where
+  pub taken_says : o.verdict ≡ Ok tt → (read_text current t).verdict ≡ Taken
+  taken_says e = ap (λ (x : Outcome). x.verdict) (sym r) ∙ ap verdict_in e
 
   -- an accepted text's is that of its run
-  pub taken_report : o.verdict ≡ Taken → run_report (run_of current t) ≡ report_of t
+  pub taken_report : o.verdict ≡ Ok tt → run_report (run_of current t) ≡ report_of t
   unfolding report_of
   taken_report e = rw (le-ltb 65535 (length t) few, taken_says e)
 
   -- a refused text's report is its number and line
-  pub refused_report : (k : ℕ) → o.verdict ≡ Refused k → refusal_report k o.line ≡ report_of t
+  pub refused_report : (fault : Fault) (k : ℕ) → o.verdict ≡ Err fault → k ≡ number_of fault.refusal → refusal_report k fault.line ≡ report_of t
   unfolding report_of
-  refused_report k e =
-      let v : (read_text current t).verdict ≡ Refused k = ap (λ (x : Outcome). x.verdict) (sym r) ∙ e in
-      rw (le-ltb 65535 (length t) few, v) (ap (λ (x : Outcome). refusal_report k x.line) r)
+  refused_report fault k e q =
+      let v : (read_text current t).verdict ≡ Refused (number_of fault.refusal) = ap (λ (x : Outcome). x.verdict) (sym r) ∙ ap verdict_in e in
+      let l : fault.line ≡ (read_text current t).line = ap line_at_fault (sym e) ∙ ap (λ (x : Outcome). x.line) r in
+      rw (le-ltb 65535 (length t) few, v, q, l)
 
-  pub line_within : o.line < 100000000
-  line_within = rw r (omega (arith, text_line t))
+  pub line_within : (fault : Fault) → o.verdict ≡ Err fault → fault.line < 100000000
+  line_within fault e =
+      let l : fault.line ≡ (read_text current t).line = ap line_at_fault (sym e) ∙ ap (λ (x : Outcome). x.line) r in
+      rw l (omega (arith, text_line t))
 
 -- too long an input
 pub long_report : (t : List ℕ) → 65535 < length t → refusal_report 14 0 ≡ report_of t

@@ -16,7 +16,6 @@ ghost use Rattle.settings.specs.Refusal.{Taken};
 use joined::Joined;
 use line::Line;
 use row::Rows;
-use settings::Verdict;
 use std::error::Error;
 use std::fmt;
 use stretches::{Sort, Stretches};
@@ -97,9 +96,8 @@ pub fn report(text: &[u8], out: &mut [u8]) -> Result<usize, NoSpace>
     if 65535 < text.len() {
         return report_refusal(14, 0, out);
     }
-    let outcome = reader::read(text);
-    match outcome.verdict {
-        Verdict::Taken => report_text(text, out),
-        Verdict::Refused(number) => report_refusal(number, outcome.line, out),
+    match reader::read(text).verdict {
+        Ok(()) => report_text(text, out),
+        Err(fault) => report_refusal(fault.refusal.number(), fault.line, out),
     }
 }
