@@ -8,6 +8,7 @@
 use arm::Gate;
 use bench::Bench;
 use cabinet::{Cabinet, Order};
+use reader::Fault;
 use runs::Step;
 use settings::{Kind, Refusal, Settings, Times};
 use std::io::{Input, Read};
@@ -46,6 +47,13 @@ fn show_answer<R: Print>(rt: &R, answer: Result<Option<Order>, Refusal>) {
         runs::letter_byte(order),
         runs::train_of(order),
     );
+}
+
+// Number and line of a text's refusal, 0 and 0 where it has none.
+fn show_fault<R: Print>(rt: &R, fault: Option<Fault>) {
+    let (number, line) = fault.map_or((0, 0), |fault| (fault.refusal.number(), fault.line));
+    show(rt, u64::from(number));
+    show(rt, line as u64);
 }
 
 // What each step answered, and the bench after them.
@@ -206,10 +214,7 @@ fn cases_k_l_m<R: Print>(rt: &R) {
     show_reading(rt, 90.015625);
     show_reading(rt, 0.0 / 0.0);
     print(rt, b"\nl");
-    let o = reader::read(b"");
-    let verdict = o.verdict;
-    show_verdict(rt, verdict);
-    show(rt, o.line as u64);
+    show_fault(rt, reader::read(b"").verdict.err());
     print(rt, b"\nm");
     shown(rt, at_last_instant(), &[Step::Clock(90.0)]);
     print(rt, b"\n");
@@ -759,7 +764,7 @@ const OLD_SAMPLE: [u8; 285] = *b"   GATE RECORD
 // As the recorder would write it: 25 lines of 16 bytes.
 fn new_sample() -> [u8; 400] {
     let mut text = [0u8; 400];
-    converter::to_new(&OLD_SAMPLE, &mut text);
+    let _ = converter::to_new(&OLD_SAMPLE, &mut text);
     text
 }
 
@@ -767,23 +772,16 @@ fn new_sample() -> [u8; 400] {
 fn both_ways<R: Print>(rt: &R) {
     let new = new_sample();
     let mut old = [0u8; 285];
-    converter::to_old(&new, &mut old);
+    let _ = converter::to_old(&new, &mut old);
     print(rt, b"forward\n");
     print(rt, &new);
     print(rt, b"back\n");
     print(rt, &old);
 }
 
-// Number and line of a refusal, 0 and 0 where the text is turned.
-fn show_converted<R: Print>(rt: &R, c: Converted) {
-    let verdict = c.verdict;
-    show_verdict(rt, verdict);
-    show(rt, c.line as u64);
-}
-
 // A text in the old form, with space for the sample in the new one.
 fn show_to_new<R: Print>(rt: &R, text: &[u8]) {
-    show_converted(rt, converter::to_new(text, &mut [0u8; 400]));
+    show_fault(rt, converter::to_new(text, &mut [0u8; 400]).err());
 }
 
 // The sample with this line in place of its own from byte `at` on.
@@ -804,13 +802,13 @@ fn old_texts<R: Print>(rt: &R) {
     show_old_with(rt, 10 * 15, 1, b'D', 1);
     show_old_with(rt, 8 * 15, 0, b'B', 1);
     show_old_with(rt, 6 * 15, 2, b'S', 6);
-    show_converted(rt, converter::to_new(&OLD_SAMPLE, &mut [0u8; 399]));
+    show_fault(rt, converter::to_new(&OLD_SAMPLE, &mut [0u8; 399]).err());
     print(rt, b"\n");
 }
 
 // A text in the new form, with space for the sample in the old one.
 fn show_to_old<R: Print>(rt: &R, text: &[u8]) {
-    show_converted(rt, converter::to_old(text, &mut [0u8; 285]));
+    show_fault(rt, converter::to_old(text, &mut [0u8; 285]).err());
 }
 
 // A record like the sample's new form, with this line in place of its own from byte `at` on.
@@ -833,7 +831,7 @@ fn new_texts<R: Print>(rt: &R) {
     show_to_old(rt, &OLD_SAMPLE);
     show_new_with(rt, of_97, 17 * 16, 2, b'T', 2881);
     show_new_with(rt, of_97, 13 * 16, 3, b'S', 13);
-    show_converted(rt, converter::to_old(&text, &mut [0u8; 284]));
+    show_fault(rt, converter::to_old(&text, &mut [0u8; 284]).err());
     print(rt, b"\n");
 }
 
@@ -846,8 +844,8 @@ fn quarry<R: Input + Print>(rt: &R) {
     let forward = converter::to_new(&text, &mut new);
     let backward = converter::to_old(&new, &mut back);
     print(rt, b"quarry");
-    show(rt, forward.bytes as u64);
-    show(rt, backward.bytes as u64);
+    show(rt, forward.unwrap_or(0) as u64);
+    show(rt, backward.unwrap_or(0) as u64);
     if lines::stands(&back, 0, &text) {
         print(rt, b" same\n");
     } else {

@@ -15,8 +15,7 @@ use Rattle.lines.specs.declared.Layout.{Layout}
 use Rattle.lines.specs.Place.{WritesOnly}
 use Rattle.lines.specs.Bytes.{fits, splice}
 use Rattle.reader.specs.Read.{Outcome}
-use Rattle.converter.specs.declared.Converted.{Converted}
-use Rattle.converter.specs.Convert.{other_text, converted, is_taken}
+use Rattle.converter.specs.Convert.{Converted, other_text, converted, is_taken}
 use Rattle.converter.specs.Restore.{Restores}
 
 -- a run of a list xs with this refusal number: the number is answered, what the rules say of the list is written, and demand 3 holds for it

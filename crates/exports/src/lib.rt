@@ -10,6 +10,7 @@ ghost use Rattle.recording.specs.RunRecorded.{record_refusal};
 ghost use Rattle.lines.specs.declared.Layout.TheVariants.{Old, New};
 ghost use Rattle.recorder.specs.Text.{current};
 ghost use Rattle.reader.specs.Read.{read_text};
+ghost use Rattle.converter.specs.Convert.{turned};
 ghost use Rattle.stretches.specs.declared.Sort.TheVariants.{Lowered, Occupied};
 ghost use Rattle.stretches.specs.Walk.{start_cursor, nothing_from, answered, stretches_ahead};
 ghost use Rattle.stretches.specs.Figures.{total};

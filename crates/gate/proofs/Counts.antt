@@ -15,9 +15,8 @@ use Rattle.recorder.specs.Text.{head_bytes}
 use Rattle.reader.specs.Read.{read_text}
 use Rattle.reader.specs.Round.{run_of}
 use Rattle.reader.proofs.Round.{accepted_written_law}
-use Rattle.converter.specs.declared.Converted.{Converted}
 use Rattle.converter.specs.Fault.{settings_in, fault_line}
-use Rattle.converter.specs.Convert.{other_text, refused_with, converted_by, converted, is_taken}
+use Rattle.converter.specs.Convert.{Converted, other_text, refused_with, converted_by, converted, is_taken}
 use Rattle.converter.specs.Restore.{Converts}
 use Rattle.converter.proofs.Lengths.{other_long}
 use Rattle.settings.specs.declared.refusal.Refusal.{Refusal}

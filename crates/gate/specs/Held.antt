@@ -3,8 +3,7 @@ use Rattle.std.specs.Prelude.{◌≡◌, ℕ, ◌≤◌, cond, List, length, tak
 use Rattle.lines.specs.declared.Layout.{Layout}
 use Rattle.lines.specs.declared.Layout.TheVariants.{Old, New}
 use Rattle.lines.specs.Bytes.{splice}
-use Rattle.converter.specs.declared.Converted.{Converted}
-use Rattle.converter.specs.Convert.{other_text, converted, is_taken}
+use Rattle.converter.specs.Convert.{Converted, other_text, converted, is_taken}
 
 -- `&xs[..n]` is in bounds and has n bytes
 abbrev pub IsPrefixLen : ℕ → List ℕ → Type 0

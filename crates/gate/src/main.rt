@@ -9,13 +9,13 @@ mod words;
 ghost use Rattle.std.specs.Prelude.{◌≡◌, ◌≤◌, length};
 ghost use Rattle.std.specs.Io.{ReadsAtMost};
 ghost use Rattle.report.specs.Report.{report_of};
+ghost use Rattle.converter.specs.Convert.{turned};
 ghost use Rattle.gate.specs.Word.{task_of};
 ghost use Rattle.gate.specs.Status.{status_of};
 ghost use Rattle.gate.specs.Held.{Held, Turned};
 
-use converter::Converted;
 use lines::Layout;
-use settings::Verdict;
+use reader::Fault;
 use std::env::FillError;
 use std::fs::OpenOptions;
 use std::io;
@@ -146,9 +146,9 @@ fn report_input<R: Input + Print + Eprint + AllocGlobal>(rt: &R) -> Result<(), P
 
 /// A text of the form `f` in the other form, at the start of a buffer that holds it whole, its other bytes as they were.
 #[tactic(auto, using(crate::proofs::Counts::turned_held))]
-fn make_text(f: Layout, text: &[u8], out: &mut [u8]) -> Converted
+fn make_text(f: Layout, text: &[u8], out: &mut [u8]) -> Result<usize, Fault>
     requires { (length text.now ≤ 1000000) × (1066800 ≤ length out.old) }
-    ensures { Turned f text.now result out.old out.new }
+    ensures { Turned f text.now (turned result) out.old out.new }
 {
     match f {
         Layout::Old => converter::to_new(text, out),
@@ -172,14 +172,13 @@ fn write_text<R: Print + Eprint + AllocGlobal>(
     requires { length text.now ≤ 1000000 }
 {
     let mut out = zeros::<1066800>();
-    let c = make_text(f, text, &mut out);
-    match c.verdict {
-        Verdict::Taken => put_out(rt, &out[..c.bytes]),
-        Verdict::Refused(number) => {
+    match make_text(f, text, &mut out) {
+        Ok(bytes) => put_out(rt, &out[..bytes]),
+        Err(fault) => {
             say_refusal(
                 rt,
-                c.line as u64,
-                number,
+                fault.line as u64,
+                fault.refusal,
                 "the line is not in the columns, is missing, or follows the last",
             );
             Err(Problem::Refused)

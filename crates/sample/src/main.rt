@@ -32,24 +32,15 @@ fn print<R: Print>(rt: &R, text: &[u8]) {
     let _ = rt.write_all(text);
 }
 
-// What a refused text's line says after its name.
-fn print_refusal<R: Print>(rt: &R, number: u8, line: usize) {
-    let _ = println!(rt; ": {number} at line {line}");
-}
-
 // A text's name and the reader's verdict on it.
 fn show<R: Print>(rt: &R, name: &[u8], text: &[u8]) {
     print(rt, name);
-    let o = reader::read(text);
-    let verdict = o.verdict;
-    match verdict {
-        Verdict::Taken => {
-            print(rt, b": accepted\n");
+    let _ = match reader::read(text).verdict {
+        Ok(()) => println!(rt; ": accepted"),
+        Err(fault) => {
+            println!(rt; ": {} at line {}", fault.refusal.number(), fault.line)
         }
-        Verdict::Refused(k) => {
-            print_refusal(rt, k, o.line);
-        }
-    }
+    };
 }
 
 // Where a line's column stands in a text, both counted from 1; the beginning for a line or a column that it has not.
