@@ -1,4 +1,4 @@
--- The calls on a bench in words: its start and its steps (document 01, "Lists of steps"). Assumes nothing.
+-- The calls on a bench in words: its start and its steps. Assumes nothing.
 use Rattle.std.specs.Prelude.{Option, Some, ℕ, List, eqb, Float, length}
 use Rattle.settings.specs.declared.Settings.{Settings}
 use Rattle.settings.specs.Settings.{settings_refusal}

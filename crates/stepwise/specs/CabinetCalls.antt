@@ -1,4 +1,4 @@
--- The calls on a cabinet in words: its start and its steps (document 01, "Cabinet"). Assumes nothing.
+-- The calls on a cabinet in words: its start and its steps. Assumes nothing.
 use Rattle.std.specs.Prelude.{Option, Some, ℕ, List, eqb, length}
 use Rattle.settings.specs.declared.Kind.{Kind}
 use Rattle.settings.specs.declared.Settings.{Settings}

@@ -592,7 +592,6 @@ pub fn cabinet_leave(words: &mut [u32], n: u32) -> u64
 }
 
 /// Whether a tick surely gives no command: the command is up, the clock goes on, and nobody is due by the look's horizon.
-// A way of its own, since the whole step takes 31 instructions for 25, and plain C in place 22.
 #[tactic(auto, using(crate::proofs::CabinetCalls::quiet_words))]
 fn is_quiet(words: &[u32]) -> bool
     requires { cabinet_length ≤ length words.now }
@@ -609,16 +608,12 @@ fn is_quiet(words: &[u32]) -> bool
     !Due::is_by(first_from(words, SOONEST), horizon)
 }
 
-#[tactic(auto, using(crate::proofs::CabinetCalls::clock_still), unfolding(crate::specs::CabinetCalls::cabinet_called, crate::specs::CabinetCalls::cabinet_hears, crate::specs::Words::cabinet_from, cabinet::specs::Cabinet::clocked))]
+#[tactic(auto, unfolding(crate::specs::CabinetCalls::cabinet_called, crate::specs::CabinetCalls::cabinet_hears, crate::specs::Words::cabinet_from, cabinet::specs::Cabinet::clocked))]
 fn hear_clock(words: &mut [u32]) -> Result<Option<Order>, Refusal>
     ensures { called (packed_answer (answered result)) words.new ≡ cabinet_called words.old cabinetCall.ticking }
 {
     if words.len() != CABINET {
         return Err(Refusal::NoSpace);
-    }
-    if is_quiet(words) {
-        words[CONTROL] += 1;
-        return Ok(None);
     }
     let mut control = control_from(words);
     let soonest = first_from(words, SOONEST);
@@ -628,9 +623,15 @@ fn hear_clock(words: &mut [u32]) -> Result<Option<Order>, Refusal>
 }
 
 /// The clock moves by one tick (`Cabinet::clock`). Refusal 10; 14 last, where there are not 405 words.
+#[tactic(auto, using(crate::proofs::CabinetCalls::clock_still))]
 pub fn cabinet_clock(words: &mut [u32]) -> u64
     ensures { called result words.new ≡ cabinet_called words.old cabinetCall.ticking }
 {
+    // a way of its own that packs nothing: with it in `hear_clock` such a tick takes 62 instructions, and plain C in place 22
+    if words.len() == CABINET && is_quiet(words) {
+        words[CONTROL] += 1;
+        return 0;
+    }
     pack(hear_clock(words))
 }
 
