@@ -2,11 +2,9 @@
 use Rattle.std.specs.Prelude.{Some, None, Option}
 use Prim.Native.Nat.{ℕ, ◌+◌, ◌*◌, ◌%◌, ◌≤◌, ◌<◌}
 use native.Mathlib.Omega.{arith}
-use mathlib.Core.Path.{◌≡◌, refl, sym, ap, ap₂, ◌∙◌}
+use mathlib.Core.Path.{◌≡◌, refl, sym, ap, ◌∙◌}
 use mathlib.Core.Bool.{Bool, true, false}
 use mathlib.Core.List.{List, [], ◌∷◌}
-use lib.Dec.{eqb}
-use lib.Ieee.{Float}
 use lib.ListN.{length, get_or, set}
 use lib.Seq.{get_or-set_same}
 use borrow.Author.Tests.{le-leb, lt-leb}
@@ -18,22 +16,19 @@ use Rattle.settings.specs.Refusal as verdicts
 use Rattle.settings.specs.Settings.{verdict}
 use Rattle.arm.specs.declared.Command.TheVariants.{Up}
 use Rattle.arm.specs.Movement.{may_move}
-use Rattle.arm.specs.Shown as arm
-use Rattle.arm.specs.Shown.{reading_of, Reading}
+use Rattle.arm.specs.Shown.{Reading}
 use Rattle.trains.specs.declared.Table.{Table}
 use Rattle.trains.specs.Table.{away_entry, fresh_table, place_for}
-use Rattle.trains.specs.First.{First, Asked, reached_by}
+use Rattle.trains.specs.First.{First, reached_by}
 use Rattle.cabinet.specs.declared.Order.{Order}
-use Rattle.cabinet.specs.Cabinet.{Taken, Refused, number_of, order_of, later}
+use Rattle.cabinet.specs.Cabinet.{Taken, order_of, later}
 use Rattle.bench.specs.declared.Event.{Event}
 use Rattle.bench.specs.declared.Event.TheVariants as events
 use Rattle.bench.specs.declared.Head.{Head}
 use Rattle.bench.specs.declared.Bench.{Bench}
-use Rattle.bench.specs.Bench as bench
-use Rattle.bench.specs.Bench.{Sensed, Ticked, Moved, fresh_bench, clock_refusal, head_ticked, head_sensed, asked_for, sensed, clock_read}
+use Rattle.bench.specs.Bench.{Sensed, Ticked, fresh_bench, clock_refusal, head_ticked, head_sensed, asked_for, sensed, clock_read}
 use Rattle.runs.specs.declared.Step.TheVariants as step
 use Rattle.runs.specs.Letters.{letter_of}
-use Rattle.runs.specs.Run.{or_else, or_full}
 use Rattle.runs.proofs.Turns.{sensed_answer, sensed_taken}
 use Rattle.std.specs.Prelude.{Ok, Err, ltb}
 use Rattle.trains.specs.declared.Question.TheVariants as question
@@ -51,10 +46,10 @@ use Rattle.stepwise.specs.Calls.{put_step}
 use Rattle.stepwise.specs.BenchCalls.{leaving, occupying}
 use Rattle.stepwise.proofs.Search.{entry_here, is_numbered, same_number, own_place, free_place}
 use Rattle.stepwise.specs.Words.{soonest_at, latest_at, first_in, settings_from, ticks_from, control_from, table_from, head_from, bench_from, bench_words}
-use Rattle.stepwise.specs.Calls.{Called, called, packed_answer, answered, train_number, QuietTick, StillTick, put_motion, put_event, entry_there, kind_named}
-use Rattle.stepwise.specs.BenchCalls.{bench_started, bench_train, bench_senses, bench_reads, bench_takes, approaching, ticking, bench_called}
+use Rattle.stepwise.specs.Calls.{called, packed_answer, answered, train_number, QuietTick, StillTick, put_motion, put_event, entry_there, kind_named}
+use Rattle.stepwise.specs.BenchCalls.{bench_started, bench_senses, bench_reads, bench_takes, approaching, bench_called}
 use Rattle.stepwise.proofs.Words.{entries_many, bench_length_law}
-use Rattle.stepwise.proofs.Calls.{lent_wrong, lent_there, answered_taken, answered_refused, order_taken, clock_quiet, named_kind, named_none, start_taken, start_short, start_refused}
+use Rattle.stepwise.proofs.Calls.{lent_there, answered_taken, clock_quiet, named_kind, start_taken, start_short, start_refused}
 
 -- ---- the start
 

@@ -1,44 +1,32 @@
 -- The calls on a cabinet, from what its own steps give. Assumes nothing.
-use Rattle.std.specs.Prelude.{None, Option}
+use Rattle.std.specs.Prelude.{None}
 use Prim.Native.Nat.{ℕ, ◌+◌, ◌<◌}
 use native.Mathlib.Omega.{arith}
 use mathlib.Core.Path.{◌≡◌, refl, sym, ap, ◌∙◌}
 use mathlib.Core.Bool.{Bool, false, cond}
 use mathlib.Core.List.{List}
 use mathlib.Core.Logic.{inl}
-use lib.Dec.{eqb, leb}
 use lib.ListN.{length, get_or, set}
-use lib.Seq.{get_or-set_same}
 use borrow.Author.Tests.{eq-eqb, leb-false, lt-leb}
 use Rattle.lines.specs.Bytes.{splice}
-use Rattle.settings.specs.declared.Kind.{Kind}
 use Rattle.settings.specs.declared.Settings.{Settings}
 use Rattle.settings.specs.declared.Ticks.{Ticks}
 use Rattle.settings.specs.Refusal as verdicts
 use Rattle.settings.specs.Settings.{verdict}
-use Rattle.settings.specs.Refusal.{unless}
-use Rattle.settings.specs.Values.{settings_of}
-use Rattle.settings.proofs.Laws.{unless_refused_law}
-use Rattle.trains.specs.declared.Entry.{Entry}
 use Rattle.trains.specs.declared.Table.{Table}
-use Rattle.trains.specs.declared.Question.TheVariants as question
-use Rattle.trains.specs.Table.{away_entry, coming_entry, fresh_table, standing_of, no_place, place_for, found_for, put}
-use Rattle.trains.specs.First.{First, Asked, own_of, earlier_of, reached_by, rest_of, asked_of}
+use Rattle.trains.specs.Table.{fresh_table, standing_of, no_place, place_for}
+use Rattle.trains.specs.First.{First, reached_by}
 use Rattle.trains.proofs.Laws.{place_room}
 use Rattle.arm.specs.declared.Command.TheVariants.{Up, Down}
-use Rattle.cabinet.specs.declared.Order.{Order}
 use Rattle.cabinet.specs.declared.Control.{Control}
 use Rattle.cabinet.specs.declared.Cabinet.{Cabinet}
-use Rattle.cabinet.specs.Cabinet.{Taken, Refused, Stepped, Controlled, number_of, order_of, fresh_cabinet, started, refused, approach_refusal, leave_refusal, order, looked_at, looked, placed, later, ticked, approached, left, clocked}
+use Rattle.cabinet.specs.Cabinet.{Controlled, order_of, fresh_cabinet, approach_refusal, leave_refusal, order, looked_at, later, ticked, clocked}
 use Rattle.cabinet.proofs.Laws.{approach_says, leave_says}
-use Rattle.runs.specs.Claims as heard
-use Rattle.runs.specs.Letters.{letter_of}
-use Rattle.runs.specs.Run.{or_else, or_full}
-use Rattle.stepwise.specs.Words.{soonest_at, first_in, table_from, settings_from, ticks_from, control_from, cabinet_from, cabinet_words}
-use Rattle.stepwise.specs.Calls.{Called, called, packed_answer, answered, train_number, QuietTick, put_clock, put_step, kind_named}
-use Rattle.stepwise.specs.CabinetCalls.{cabinet_started, cabinet_train, cabinet_looks, cabinet_approaches, cabinet_leaves, cabinet_hears, approaching, leaving, ticking, cabinet_called}
-use Rattle.stepwise.proofs.Words.{entries_many, cabinet_length_law}
-use Rattle.stepwise.proofs.Calls.{lent_wrong, lent_there, answered_refused, refused_packed, order_taken, clock_quiet, named_kind, named_none, start_taken, start_short, start_refused}
+use Rattle.stepwise.specs.Words.{soonest_at, first_in, settings_from, ticks_from, control_from, cabinet_from, cabinet_words}
+use Rattle.stepwise.specs.Calls.{called, answered, QuietTick, put_clock}
+use Rattle.stepwise.specs.CabinetCalls.{cabinet_started, cabinet_hears, ticking, cabinet_called}
+use Rattle.stepwise.proofs.Words.{cabinet_length_law}
+use Rattle.stepwise.proofs.Calls.{lent_there, clock_quiet, start_taken, start_short, start_refused}
 
 -- ---- the start
 

@@ -2,23 +2,21 @@
 use Rattle.std.specs.Prelude.{None, Some, Option}
 use Prim.Native.Nat.{ℕ, zero, suc, ◌≤◌}
 use native.Mathlib.Omega.{arith}
-use mathlib.Core.Path.{◌≡◌, refl, sym, ap, ◌∙◌}
-use mathlib.Core.Bool.{not}
+use mathlib.Core.Path.{◌≡◌, sym, ap, ◌∙◌}
 use mathlib.Core.List.{List}
 use lib.Dec.{eqb}
 use lib.ListN.{length, set}
-use borrow.Author.Tests.{eq-eqb, ne_eqb, eqb-true, not-false}
+use borrow.Author.Tests.{eq-eqb, ne_eqb}
 use Rattle.lines.specs.Bytes.{splice}
 use Rattle.lines.proofs.Splices.{splice_one}
 use Rattle.settings.specs.declared.Kind.{Kind}
 use Rattle.settings.specs.declared.Settings.{Settings}
 use Rattle.settings.specs.Refusal as verdicts
 use Rattle.settings.specs.Settings.{settings_refusal, verdict_of, verdict}
-use Rattle.settings.proofs.Laws.{refuse_none}
 use Rattle.cabinet.specs.declared.Order.{Order}
 use Rattle.cabinet.specs.declared.Order.TheVariants as order
 use Rattle.cabinet.specs.declared.Control.{Control}
-use Rattle.cabinet.specs.Cabinet.{Taken, Refused, Answer, number_of, order_of, start_answer}
+use Rattle.cabinet.specs.Cabinet.{Taken, Refused, Answer, order_of}
 use Rattle.runs.specs.Run.{or_else, or_full}
 use Rattle.stepwise.specs.Calls.{Called, called, packed_answer, answered, lent, started_by, put_clock, put_control, of_kind, or_no_step}
 use Rattle.stepwise.proofs.Words.{all_spliced}

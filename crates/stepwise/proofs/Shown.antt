@@ -7,7 +7,6 @@ use lib.Ieee.{Float}
 use lib.ListN.{length, set}
 use borrow.Author.Tests.{eq-eqb, ne_eqb, le-leb, lt-leb}
 use Rattle.arm.specs.declared.Gate.{Gate}
-use Rattle.arm.specs.declared.Gate.TheVariants.{Up, Down, Falling, Rising}
 use Rattle.arm.specs.declared.Pose.{Pose}
 use Rattle.arm.specs.Shown.{pose_of, gate_of}
 use Rattle.bench.specs.declared.Bench.{Bench}

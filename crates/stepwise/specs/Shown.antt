@@ -1,5 +1,5 @@
 -- What a bench shows: its pose in degrees, its gate by number, and both read from the words of a bench.
--- Decides beyond it: the gate's values are numbered up, down, falling, rising. Assumes nothing.
+-- Decides: the gate's values are numbered in the order up, down, falling, rising. Assumes nothing.
 use Rattle.std.specs.Prelude.{ℕ, ◌*◌, cond, ◌&&◌, List, [], ◌∷◌, eqb, leb, Float, length}
 use Rattle.arm.specs.declared.Pose.{Pose}
 use Rattle.arm.specs.declared.Gate.{Gate}

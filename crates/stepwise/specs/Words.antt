@@ -1,6 +1,6 @@
 -- A cabinet and a bench in words that the caller lends: what each word says, from words and to words. Every list of words is read as some cabinet and as
 -- some bench: a word that names no command, kind or standing is read as the one said last beside it, one that is not there as 0.
--- Decides beyond the documents: which word stands where. Assumes nothing.
+-- Decides which word stands where. Assumes nothing.
 use Rattle.std.specs.Prelude.{ℕ, zero, suc, ◌+◌, ◌*◌, ◌/◌, ◌%◌, cond, List, [], ◌∷◌, ◌++◌, eqb, get_or, Some, None}
 use Rattle.settings.specs.declared.Kind.{Kind}
 use Rattle.settings.specs.declared.Kind.TheVariants.{Loaded, Empty, Engine, RailCar}

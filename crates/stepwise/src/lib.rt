@@ -10,6 +10,7 @@ ghost use Rattle.lines.specs.Bytes.{splice};
 ghost use Rattle.settings.specs.Refusal.{judged};
 ghost use Rattle.settings.specs.Settings.{number_of};
 ghost use Rattle.settings.specs.Values.{thirteen, settings_of};
+ghost use Rattle.arm.specs.Shown as arm;
 ghost use Rattle.trains.specs.Table.{is_of, is_free, found_for};
 ghost use Rattle.trains.specs.First.{own_but, first_but, rest_of};
 ghost use Rattle.cabinet.specs.Cabinet.{answered, order, looked_at};
@@ -17,7 +18,7 @@ ghost use Rattle.runs.specs.Letters.{letter_of};
 ghost use Rattle.stepwise.specs.Words.{soonest_at, table_at, place_at, cabinet_length, bench_length, command_from, command_number, kind_from, kind_as, standing_from, standing_number, entry_in, entry_words, table_from};
 ghost use Rattle.stepwise.specs.Words.{entries_words, first_in, first_words, settings_from, ticks_from, ticks_words, control_from};
 ghost use Rattle.stepwise.specs.Words.{cabinet_words, head_from, arm_words, bench_words};
-ghost use Rattle.stepwise.specs.Calls.{called, packed_answer, QuietTick, StillTick, put_clock, put_control, put_motion, put_step, kind_named};
+ghost use Rattle.stepwise.specs.Calls.{called, packed_answer, QuietTick, StillTick, lent, put_clock, put_control, put_motion, put_step, kind_named};
 ghost use Rattle.stepwise.specs.CabinetCalls as cabinetCall;
 ghost use Rattle.stepwise.specs.CabinetCalls.{cabinet_started, cabinet_called};
 ghost use Rattle.stepwise.specs.BenchCalls as benchCall;
@@ -592,7 +593,6 @@ pub fn cabinet_leave(words: &mut [u32], n: u32) -> u64
 }
 
 /// Whether a tick surely gives no command: the command is up, the clock goes on, and nobody is due by the look's horizon.
-// A way of its own, since the whole step takes 31 instructions for 25, and plain C in place 22.
 #[tactic(auto, using(crate::proofs::CabinetCalls::quiet_words))]
 fn is_quiet(words: &[u32]) -> bool
     requires { cabinet_length ≤ length words.now }
@@ -609,16 +609,12 @@ fn is_quiet(words: &[u32]) -> bool
     !Due::is_by(first_from(words, SOONEST), horizon)
 }
 
-#[tactic(auto, using(crate::proofs::CabinetCalls::clock_still), unfolding(crate::specs::CabinetCalls::cabinet_called, crate::specs::CabinetCalls::cabinet_hears, crate::specs::Words::cabinet_from, cabinet::specs::Cabinet::clocked))]
+#[tactic(auto, unfolding(crate::specs::CabinetCalls::cabinet_called, crate::specs::CabinetCalls::cabinet_hears, crate::specs::Words::cabinet_from, cabinet::specs::Cabinet::clocked))]
 fn hear_clock(words: &mut [u32]) -> Result<Option<Order>, Refusal>
     ensures { called (packed_answer (answered result)) words.new ≡ cabinet_called words.old cabinetCall.ticking }
 {
     if words.len() != CABINET {
         return Err(Refusal::NoSpace);
-    }
-    if is_quiet(words) {
-        words[CONTROL] += 1;
-        return Ok(None);
     }
     let mut control = control_from(words);
     let soonest = first_from(words, SOONEST);
@@ -628,9 +624,15 @@ fn hear_clock(words: &mut [u32]) -> Result<Option<Order>, Refusal>
 }
 
 /// The clock moves by one tick (`Cabinet::clock`). Refusal 10; 14 last, where there are not 405 words.
+#[tactic(auto, using(crate::proofs::CabinetCalls::clock_still))]
 pub fn cabinet_clock(words: &mut [u32]) -> u64
     ensures { called result words.new ≡ cabinet_called words.old cabinetCall.ticking }
 {
+    // a way of its own that packs nothing: with it in `hear_clock` such a tick takes 62 instructions, and plain C in place 22
+    if words.len() == CABINET && is_quiet(words) {
+        words[CONTROL] += 1;
+        return 0;
+    }
     pack(hear_clock(words))
 }
 
@@ -774,20 +776,15 @@ fn is_still(words: &[u32], angle: u16) -> bool
     Command::Up.may_move(&settings_from(words), was, angle)
 }
 
-/// A clock step with a reading in 64ths (`Head::tick`): where it surely gives no command, only the arm and the instant are written.
-#[tactic(auto, using(crate::proofs::BenchCalls::still_goes_on, crate::proofs::BenchCalls::reads_still), unfolding(crate::specs::Words::bench_from, bench::specs::Bench::clock_read))]
-fn read(words: &mut [u32], reading: Option<u16>) -> Result<Option<Order>, Refusal>
-    requires { (bench_length ≤ length words.old) × IfSome reading (λ angle. angle ≤ 5760) }
-    ensures { called (packed_answer (answered result)) words.new ≡ bench_reads words.old reading }
+/// A clock step with a reading in 64ths (`Head::tick`).
+#[tactic(auto, unfolding(crate::specs::Words::bench_from, bench::specs::Bench::clock_read))]
+fn read_clock(words: &mut [u32], reading: Option<u16>) -> Result<Option<Order>, Refusal>
+    requires { IfSome reading (λ angle. angle ≤ 5760) }
+    ensures { called (packed_answer (answered result)) words.new ≡ lent bench_length words.old (arm.number_of reading) (bench_reads words.old reading) }
 {
-    if let Some(angle) = reading {
-        if is_still(words, angle) {
-            let now = words[CONTROL];
-            let was = words[ARM] % 65_536;
-            put(words, ARM, &[u32::from(angle), was]);
-            words[CONTROL] = now + 1;
-            return Ok(None);
-        }
+    if words.len() != BENCH {
+        reading.ok_or(Refusal::NotAReading)?;
+        return Err(Refusal::NoSpace);
     }
     let mut head = head_from(words);
     let order = head.tick(reading)?;
@@ -795,23 +792,23 @@ fn read(words: &mut [u32], reading: Option<u16>) -> Result<Option<Order>, Refusa
     Ok(order)
 }
 
-#[tactic(auto, using(arm::proofs::Readings::angle_in_range), unfolding(crate::specs::BenchCalls::bench_called, crate::specs::BenchCalls::bench_takes))]
-fn read_clock(words: &mut [u32], reading: f32) -> Result<Option<Order>, Refusal>
-    ensures { called (packed_answer (answered result)) words.new ≡ bench_called words.old (benchCall.ticking reading) }
-{
-    let angle = arm::to_64ths(reading);
-    if words.len() != BENCH {
-        angle.ok_or(Refusal::NotAReading)?;
-        return Err(Refusal::NoSpace);
-    }
-    read(words, angle)
-}
-
 /// The clock moves by one tick and brings a reading in degrees. Refusals 10 to 13; 14 last, where there are not 411 words.
+#[tactic(auto, using(arm::proofs::Readings::angle_in_range, crate::proofs::BenchCalls::still_goes_on, crate::proofs::BenchCalls::reads_still), unfolding(crate::specs::BenchCalls::bench_called, crate::specs::BenchCalls::bench_takes))]
 pub fn bench_clock(words: &mut [u32], reading: f32) -> u64
     ensures { called result words.new ≡ bench_called words.old (benchCall.ticking reading) }
 {
-    pack(read_clock(words, reading))
+    let read = arm::to_64ths(reading);
+    if let Some(angle) = read {
+        // a way of its own that packs nothing: where it surely gives no command, only the arm and the instant are written
+        if words.len() == BENCH && is_still(words, angle) {
+            let now = words[CONTROL];
+            let was = words[ARM] % 65_536;
+            put(words, ARM, &[u32::from(angle), was]);
+            words[CONTROL] = now + 1;
+            return 0;
+        }
+    }
+    pack(read_clock(words, read))
 }
 
 // ---- what the bench shows
