@@ -16,9 +16,8 @@ use Rattle.reader.specs.Read.{Outcome, read_text}
 use Rattle.reader.specs.Round.{run_of}
 use Rattle.reader.proofs.Into.{accepted_steps}
 use Rattle.reader.proofs.Round.{accepted_written_law}
-use Rattle.converter.specs.declared.Converted.{Converted}
 use Rattle.converter.specs.Fault.{settings_in, fault_line}
-use Rattle.converter.specs.Convert.{other_text, refused_with, converted, is_taken, Convertible}
+use Rattle.converter.specs.Convert.{Converted, other_text, refused_with, converted, is_taken, Convertible}
 use Rattle.converter.specs.Restore.{Converts}
 use Rattle.converter.proofs.Lengths.{other_long}
 use Rattle.converter.proofs.Restore.{restores}
