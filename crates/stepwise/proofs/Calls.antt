@@ -14,11 +14,10 @@ use Rattle.settings.specs.declared.Settings.{Settings}
 use Rattle.settings.specs.Refusal as verdicts
 use Rattle.settings.specs.Settings.{settings_refusal, verdict_of, verdict}
 use Rattle.cabinet.specs.declared.Order.{Order}
-use Rattle.cabinet.specs.declared.Order.TheVariants as order
 use Rattle.cabinet.specs.declared.Control.{Control}
-use Rattle.cabinet.specs.Cabinet.{Taken, Refused, Answer, order_of}
+use Rattle.cabinet.specs.Cabinet.{Taken, Answer}
 use Rattle.runs.specs.Run.{or_else, or_full}
-use Rattle.stepwise.specs.Calls.{Called, called, packed_answer, answered, lent, started_by, put_clock, put_control, of_kind, or_no_step}
+use Rattle.stepwise.specs.Calls.{Called, called, packed_answer, answered, lent, started_by, put_clock, of_kind, or_no_step}
 use Rattle.stepwise.proofs.Words.{all_spliced}
 
 -- ---- words of the wrong length, and of the right one
@@ -35,42 +34,22 @@ pub lent_held : {A : Type 0} (many : ℕ) (ws : List ℕ) (own : ℕ) (gives : A
     lent many ws own (gives read) ≡ x
 lent_held many ws own gives read held x l p e = sym (lent_there many ws own (gives read) x l (sym (ap gives p ∙ e)))
 
--- ---- a step taken, and one refused
+-- ---- a step taken
 
 module _ (a : Answer) (new ws : List ℕ) (r : ℕ) (packed : r ≡ packed_answer a) where
   pub answered_taken : (o : Option Order) (after : List ℕ) → a ≡ Taken o → after ≡ new → called r after ≡ answered a new ws
   answered_taken o after t e = rw (packed, t, e)
 
-  pub answered_refused : (k : ℕ) → a ≡ Refused k → called r ws ≡ answered a new ws
-  answered_refused k t = rw (packed, t)
-
--- a number packed alone
-pub refused_packed : (k : ℕ) → packed_answer (Refused k) ≡ k
-refused_packed k = omega arith
-
--- one taken, whose words are by the order that is given
-pub order_taken : (a : Answer) (new : Option Order → List ℕ) (ws : List ℕ) (o : Option Order) → a ≡ Taken o → called (packed_answer (Taken o)) (new o) ≡ answered a (new (order_of a)) ws
-order_taken a new ws o t = rw t
-
--- a clock step taken, by its order
+-- a clock step taken that gives no command
 module _ (ws : List ℕ) (o : Option Order) (w : Control) where
   pub clock_quiet : 16 ≤ length ws → o ≡ None → called 0 (set ws 15 w.now) ≡ called (packed_answer (Taken o)) (put_clock ws o w)
   clock_quiet l e = rw e (ap (called 0) (splice_one ws 15 w.now (omega arith)))
 
-  pub clock_lowers : (n r : ℕ) (after : List ℕ) → o ≡ Some (order.Lower n) → after ≡ put_control ws w → r ≡ packed_answer (Taken o) → called r after ≡ called (packed_answer (Taken o)) (put_clock ws o w)
-  clock_lowers n r after e p q = rw (q, p, e)
-
-  pub clock_raises : (r : ℕ) (after : List ℕ) → o ≡ (Some order.Raise) → after ≡ put_control ws w → r ≡ packed_answer (Taken o) → called r after ≡ called (packed_answer (Taken o)) (put_clock ws o w)
-  clock_raises r after e p q = rw (q, p, e)
-
--- ---- an approach whose letter names a kind, and one whose letter names none
+-- ---- an approach whose letter names a kind
 
 module _ {X : Type 0} (named : Option Kind) (approach : Kind → X) (ws : List ℕ) (gives : X → Called) where
   pub named_kind : (k : Kind) → named ≡ Some k → or_no_step (of_kind named approach) ws gives ≡ gives (approach k)
   named_kind k e = rw e
-
-  pub named_none : named ≡ None → or_no_step (of_kind named approach) ws gives ≡ called 15 ws
-  named_none e = rw e
 
 -- ---- a start
 
