@@ -31,7 +31,7 @@ use Rattle.lines.specs.Bytes.{fits}
 use Rattle.report.specs.Report.{Reported, written_bytes, short_buffer, ReportWritten}
 use Rattle.exports.specs.Exports.{Answered, CabinetAnswered, pack, bytes_of, RecordAnswered, pack_converted, ConvertAnswered, Reports}
 use Rattle.lines.specs.declared.Layout.{Layout}
-use Rattle.converter.specs.declared.Converted.{Converted}
+use Rattle.converter.specs.Convert.{Converted}
 use Rattle.converter.specs.Restore.{Converts}
 
 number_finished : (k : ℕ) (s : Settings) (xs : List Step) → number_of (finished_by k s xs).verdict ≡ k

@@ -36,12 +36,12 @@ pub loop-place-preserved : goal.loop-place-preserved
 loop-place-preserved c =
     let k = c.loop-place in
     writing_next c.args.bench.now.table _ (four_long c.args.state.now _ _ _ _ c.requires) k.state k.place k.i k.invariant
-    c.loop-place-test.true _ _ _ _ _ c.shown_at-entry.ensures refl c.kind_number.ensures c.standing_number.ensures c.since.ensures
+    c.loop-place-test.true _ _ _ _ _ c.shown_at-entry.ensures c.from-in-loop-place.ensures c.kind_number.ensures c.standing_number.ensures c.since.ensures
 
 pub returns : goal.returns
 unfolding bench_numbers
 returns c =
     let k = c.loop-place in
-    rw (← c.command_number.ensures)
+    rw (← c.command_number.ensures, ← c.from.ensures, ← c.from-2.ensures)
     (writing_end c.args.bench.now.table _ (four_long c.args.state.now _ _ _ _ c.requires) k.state k.place k.i k.invariant c.loop-place-test.false c.args.state.now _
     (four_filled c.args.state.now _ _ _ _ _ (omega (arith, c.requires))))
