@@ -28,9 +28,9 @@ next_numbers r =
     r.cursor.at ∷ r.cursor.now ∷ flag r.cursor.low ∷ r.cursor.inside ∷ found_number r.found r.stretch.running ∷ r.stretch.first ∷ r.stretch.last ∷ []
 
 -- what is found, its first and its last instant
-abbrev pub found_numbers : Option Stretch → List ℕ
-found_numbers None = 0 ∷ 0 ∷ 0 ∷ []
-found_numbers (Some x) = found_number true x.running ∷ x.first ∷ x.last ∷ []
+abbrev pub found_numbers : Option Stretch → ℕ × ℕ × ℕ
+found_numbers None = (0, 0, 0)
+found_numbers (Some x) = (found_number true x.running, x.first, x.last)
 
 -- the answer that a cursor gets
 abbrev pub next_from : Sort → List ℕ → Cursor → Next

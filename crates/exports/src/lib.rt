@@ -389,16 +389,16 @@ fn flag_of(b: bool) -> usize
 }
 
 // What is found: 0 nothing, 1 a stretch that has ended or 2 one that is running; and its first and its last instant.
-fn found_numbers(found: Option<Stretch>) -> [usize; 3]
+fn found_numbers(found: Option<Stretch>) -> (usize, usize, usize)
     ensures { result ≡ found_numbers found }
 {
     match found {
-        None => [0, 0, 0],
-        Some(stretch) => [
+        None => (0, 0, 0),
+        Some(stretch) => (
             if stretch.is_running() { 2 } else { 1 },
             stretch.first(),
             stretch.last(),
-        ],
+        ),
     }
 }
 
@@ -408,7 +408,7 @@ fn write_next(found: Option<Stretch>, cursor: Cursor, places: &mut [usize])
     requires { 7 ≤ length places.old }
     ensures { places.new ≡ over (next_numbers (answered found cursor)) places.old }
 {
-    let [number, first, last] = found_numbers(found);
+    let (number, first, last) = found_numbers(found);
     places[..7].copy_from_slice(&[
         cursor.at,
         cursor.now,
