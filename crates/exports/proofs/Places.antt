@@ -13,7 +13,7 @@ use Rattle.stretches.specs.Walk.{Next, answered, Gives}
 use Rattle.exports.specs.Places.{cursor_in, flag, found_numbers, next_numbers, next_from, Placed}
 
 -- the numbers of an answer: its cursor's, and those of what is found
-pub numbers_answered : (found : Option Stretch) (c : Cursor) → next_numbers (answered found c) ≡ c.at ∷ c.now ∷ flag c.low ∷ c.inside ∷ (found_numbers found).0 ∷ (found_numbers found).1.0 ∷ (found_numbers found).1.1 ∷ []
+pub numbers_answered : (found : Option Stretch) (c : Cursor) → next_numbers (answered found c) ≡ c.at ∷ c.now ∷ flag c.low ∷ c.inside ∷ (found_numbers found).0 ∷ (found_numbers found).1 ∷ (found_numbers found).2 ∷ []
 numbers_answered None c = refl
 numbers_answered (Some x) c = refl
 
