@@ -1,0 +1,2 @@
+-- What a line gives is within its buffer. Assumes nothing.
+use Rattle.std.proofs.Common.{ap, rw}
