@@ -48,9 +48,9 @@ report_held {lines} {out} {r} {n} {after} h e w =
     record { whole = given; bytes = left; within = counted _ _ (omega (arith, simp (length-append, length-drop) at long)) }
 
 -- what a line of the bench's input gives is at its buffer's start
-pub given_held : (out after : List ℕ) {l : Live} (r : Result ℕ Refusal) {g : Given} → given r l ≡ g → g.bytes ≤ length out → length after ≡ length out → IfOk r (λ n. IsPrefixLen n after)
-given_held out after (Ok n) p h l = counted n after (omega (arith, ap (λ (x : Given). x.bytes) p))
-given_held out after (Err e) p h l = tt
+pub given_held : (out after : List ℕ) (l : Live) (r : Result ℕ Refusal) (g : Given) → given r l ≡ g → g.bytes ≤ length out → length after ≡ length out → IfOk r (λ n. IsPrefixLen n after)
+given_held out after l (Ok n) g p h e = counted n after (omega (arith, ap (λ (x : Given). x.bytes) p))
+given_held out after l (Err r) g p h e = tt
 
 -- what is held of a line: as many of the next bytes as there is space for
 pub held_more : (xs ys : List ℕ) (n room : ℕ) → room + length xs ≡ n → xs ++ take (min (length ys) room) ys ≡ take n (xs ++ ys)

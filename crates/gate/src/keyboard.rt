@@ -12,7 +12,6 @@ use settings::Refusal;
 use std::io::{Input, Read};
 
 /// What a line gives, within its buffer.
-#[tactic(auto, using(crate::proofs::Counts::given_held, live::proofs::Taking::line_few))]
 fn give_line(live: &mut Live, line: &[u8], out: &mut [u8]) -> Result<usize, Refusal>
     ensures { IfOk result (λ bytes. IsPrefixLen bytes out.new) }
 {
@@ -20,7 +19,6 @@ fn give_line(live: &mut Live, line: &[u8], out: &mut [u8]) -> Result<usize, Refu
 }
 
 /// And the end of the input.
-#[tactic(auto, using(crate::proofs::Counts::given_held, live::proofs::Taking::end_few))]
 fn give_last(live: &Live, out: &mut [u8]) -> Result<usize, Refusal>
     ensures { IfOk result (λ bytes. IsPrefixLen bytes out.new) }
 {
