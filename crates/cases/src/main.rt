@@ -308,7 +308,7 @@ fn hear(cabinet: &mut Cabinet, step: Heard) -> Result<Option<Order>, Refusal> {
 }
 
 // What each step answered.
-fn heard<R: Print>(rt: &R, mut cabinet: Cabinet, steps: &[Heard]) {
+fn show_heard<R: Print>(rt: &R, mut cabinet: Cabinet, steps: &[Heard]) {
     for step in steps {
         let answer = hear(&mut cabinet, *step);
         show_answer(rt, answer);
@@ -346,7 +346,7 @@ fn present_along_sample<R: Print>(rt: &R) {
 fn cabinet_alone<R: Print>(rt: &R) {
     let fresh = Cabinet::fresh(worked::settings_k());
     print(rt, b"cabinet");
-    heard(
+    show_heard(
         rt,
         fresh,
         &[
@@ -359,7 +359,7 @@ fn cabinet_alone<R: Print>(rt: &R) {
             Heard::Clock,
         ],
     );
-    heard(
+    show_heard(
         rt,
         fresh,
         &[
@@ -374,7 +374,7 @@ fn cabinet_alone<R: Print>(rt: &R) {
     );
     let mut last = fresh;
     last.control.now = cabinet::LAST_INSTANT;
-    heard(rt, last, &[Heard::Clock]);
+    show_heard(rt, last, &[Heard::Clock]);
     print(rt, b"\n");
 }
 
@@ -572,7 +572,7 @@ fn full_alone<R: Print>(rt: &R) {
     let cabinet = crowd_alone();
     print(rt, b"fullalone");
     show(rt, u64::from(cabinet.trains_present()));
-    heard(
+    show_heard(
         rt,
         cabinet,
         &[
