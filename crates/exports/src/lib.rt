@@ -196,9 +196,7 @@ pub extern "C" fn weqhaso_cabinet(
         (told answers.old orders.old named.old) (told answers.new orders.new named.new) }
 {
     let settings = Settings::of_values(values);
-    number(&alone::run(
-        &settings, letters, numbers, answers, orders, named,
-    ))
+    number(&alone::run(&settings, letters, numbers, answers, orders, named))
 }
 
 // ---- a cabinet and a bench in words that the caller lends, one call a step

@@ -108,9 +108,7 @@ impl<'a, R: Print + Eprint + AllocGlobal> Keyboard<'a, R> {
     /// The line that is held has ended: its lines of the record are to go out, or its refusal is said.
     fn take_line(&mut self) -> Result<(), Problem> {
         let room = self.window.make_room(self.rt);
-        let taken = self
-            .window
-            .take_line(&mut self.live, self.line.as_slice());
+        let taken = self.window.take_line(&mut self.live, self.line.as_slice());
         self.line.clear();
         self.lines = self.lines.wrapping_add(1);
         let Err(refusal) = taken else {

@@ -34,7 +34,12 @@ pub(crate) fn say_failure<R: Eprint + AllocGlobal>(rt: &R, what: &str, e: io::Er
 }
 
 /// The line, the number and the words of a refusal; what it means that a line stands for nothing there is the caller's to say.
-pub(crate) fn say_refusal<R: Eprint>(rt: &R, line: u64, refusal: Refusal, no_meaning: &'static str) {
+pub(crate) fn say_refusal<R: Eprint>(
+    rt: &R,
+    line: u64,
+    refusal: Refusal,
+    no_meaning: &'static str,
+) {
     let number = refusal.number();
     let _ = match refusal {
         Refusal::NotInColumns => eprintln!(rt; "line {line}: refused {number}: {no_meaning}"),

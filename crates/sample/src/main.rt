@@ -37,9 +37,7 @@ fn show<R: Print>(rt: &R, name: &[u8], text: &[u8]) {
     print(rt, name);
     let _ = match reader::read(text).verdict {
         Ok(()) => println!(rt; ": accepted"),
-        Err(fault) => {
-            println!(rt; ": {} at line {}", fault.refusal.number(), fault.line)
-        }
+        Err(fault) => { println!(rt; ": {} at line {}", fault.refusal.number(), fault.line) }
     };
 }
 
