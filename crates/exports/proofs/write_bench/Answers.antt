@@ -1,5 +1,5 @@
 -- Four places, then four for each entry.
-use Rattle.std.proofs.Common.{refl, arith}
+use Rattle.std.proofs.Common.{arith}
 use lib.ListN.{length-set}
 use Rattle.exports.specs.State.{bench_numbers}
 use Rattle.exports.proofs.State.{four_filled, four_long, writing_start, writing_room, writing_next, writing_end}
