@@ -28,7 +28,7 @@ ghost use Rattle.exports.specs.Places.{cursor_of, cursor_in, flag, found_numbers
 
 use bench::Bench;
 use reader::Fault;
-use settings::{Settings, number};
+use settings::{Refusal, Settings, number};
 use stretches::{Cursor, Sort, Stretch};
 use trains::Entry;
 
@@ -433,7 +433,7 @@ fn next_into(sort: Sort, text: &[u8], places: &mut [usize]) -> u8
         places.old result places.new }
 {
     if places.len() < 7 {
-        return 14;
+        return Refusal::NoSpace.number();
     }
     let mut cursor = cursor_of(places[0], places[1], places[2], places[3]);
     let found = cursor.next_stretch(sort, text);
@@ -448,7 +448,7 @@ pub extern "C" fn weqhaso_start(places: &mut [usize]) -> u8
     ensures { Placed (next_numbers (nothing_from start_cursor)) places.old result places.new }
 {
     if places.len() < 7 {
-        return 14;
+        return Refusal::NoSpace.number();
     }
     write_next(None, Cursor::start(), places);
     0

@@ -404,6 +404,7 @@ fn put_entry(words: &mut [u32], place: usize, entry: Entry)
     put(words, TABLE + 4 * place, &entry_words(entry));
 }
 
+// By value: of a table behind a reference no proof knows that it has 96 places.
 #[tactic(auto, using(trains::proofs::Lists::length_mapped, crate::proofs::Words::writing_start, crate::proofs::Words::writing_next, crate::proofs::Words::writing_end, crate::proofs::Words::writing_length))]
 fn put_table(words: &mut [u32], table: Table)
     requires { cabinet_length ≤ length words.old }
@@ -821,6 +822,13 @@ pub fn bench_clock(words: &mut [u32], reading: f32) -> u64
 
 // ---- what the bench shows
 
+/// The number of the refusal where there are too few words or places, as C gets it.
+fn no_space() -> u64
+    ensures { result ≡ 14 }
+{
+    Refusal::NoSpace.number().into()
+}
+
 /// The pose in the first two places of `pose`: the angle and its change over the last clock step, in degrees. 0, or 14 where there are not
 /// 411 words or fewer than two places.
 #[tactic(auto, using(crate::proofs::Shown::pose_wrong, crate::proofs::Shown::pose_few, crate::proofs::Shown::pose_there))]
@@ -828,10 +836,10 @@ pub fn bench_pose(words: &[u32], pose: &mut [f32]) -> u64
     ensures { showed result pose.new ≡ pose_shown words.now pose.old }
 {
     if words.len() != BENCH {
-        return 14;
+        return no_space();
     }
     if pose.len() < 2 {
-        return 14;
+        return no_space();
     }
     let motion = motion_from(words);
     let shown = Pose::of(motion.previous, motion.angle);
@@ -859,10 +867,10 @@ pub fn bench_gate(words: &[u32], angle: &mut [f32]) -> u64
     ensures { showed result angle.new ≡ gate_shown words.now angle.old }
 {
     if words.len() != BENCH {
-        return 14;
+        return no_space();
     }
     if angle.is_empty() {
-        return 14;
+        return no_space();
     }
     let motion = motion_from(words);
     let gate = Gate::of(motion.control.command, motion.angle);
