@@ -1,5 +1,5 @@
 -- The bench after a list of steps, by numbers: instant, angle, angle before and command, then four numbers for each present train, at its entry of the table
---. Decides beyond it: which number stands where. Assumes nothing.
+-- Assumes nothing.
 use Rattle.std.specs.Prelude.{ℕ, zero, suc, ◌+◌, ◌≡◌, cond, List, [], ◌∷◌, leb}
 use Rattle.settings.specs.declared.Settings.{Settings}
 use Rattle.trains.specs.declared.Entry.{Entry}

@@ -122,7 +122,7 @@ impl<'a, R: Print + Eprint + AllocGlobal> Keyboard<'a, R> {
             "no settings and no step, or not in its place",
         );
         self.refused = true;
-        room.and(written)
+        written
     }
 
     /// The bytes of a read: lines of any length. All that they give is written.
@@ -149,17 +149,16 @@ impl<'a, R: Print + Eprint + AllocGlobal> Keyboard<'a, R> {
 
     /// The record's last line goes out.
     fn give_end(&mut self) -> Result<(), Problem> {
-        let room = self.window.make_room(self.rt);
+        // The last write decides: the flush after these writes all that a failed one left.
+        let _ = self.window.make_room(self.rt);
         let _ = self.window.take_last(&self.live);
-        let written = self.window.flush(self.rt);
-        room.and(written)
+        self.window.flush(self.rt)
     }
 
     /// The end of the input.
     fn end(&mut self) -> Result<(), Problem> {
-        let taken = self.take_last();
-        let given = self.give_end();
-        taken.and(given)?;
+        let _ = self.take_last();
+        self.give_end()?;
         if self.refused {
             return Err(Problem::Refused);
         }

@@ -1,5 +1,5 @@
 -- The report of a record text: a line for each stretch, those of both kinds merged, and one with their figures; or the refusal alone. Assumes nothing.
--- Decides beyond it: a buffer too short for an R line is 14 and 0 too; the answer says how many bytes were written.
+-- A buffer too short for an R line is 14 and 0 too; the answer says how many bytes were written.
 use Rattle.std.specs.Prelude.{ℕ, ◌+◌, ◌≡◌, cond, List, [], ◌∷◌, ◌++◌, leb, ltb, length, Result, Ok, Err}
 use Rattle.settings.specs.Refusal.{Taken, Refused, Verdict}
 use Rattle.lines.specs.Numeral.{numeral}

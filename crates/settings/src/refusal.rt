@@ -4,7 +4,7 @@ ghost use Rattle.settings.specs.Refusal.{number_of};
 use std::error::Error;
 use std::fmt;
 
-/// Why a call is refused. Where a call meets several, it answers the one with the least number, but `NoSpace` last.
+/// Why a call is refused. Where it meets several refusals, each function says which comes first; `NoSpace` comes last.
 #[derive(Clone, Copy, Debug, PartialEq, Eq, Hash, PartialOrd, Ord)]
 pub enum Refusal {
     /// A setting lies outside its range.
