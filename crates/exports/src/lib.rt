@@ -409,22 +409,21 @@ fn found_numbers(found: Option<Stretch>) -> (usize, usize, usize)
     }
 }
 
-// A cursor and what was found before it, by numbers.
+// A cursor and what was found before it, by numbers: stored one by one, since between a text and its report
+// there is no array but those that tests/arrays names.
 #[tactic(auto, using(crate::proofs::Places::numbers_answered))]
 fn write_next(found: Option<Stretch>, cursor: Cursor, places: &mut [usize])
     requires { 7 ≤ length places.old }
     ensures { places.new ≡ over (next_numbers (answered found cursor)) places.old }
 {
     let (number, first, last) = found_numbers(found);
-    places[..7].copy_from_slice(&[
-        cursor.at,
-        cursor.now,
-        flag_of(cursor.low),
-        cursor.inside,
-        number,
-        first,
-        last,
-    ]);
+    places[0] = cursor.at;
+    places[1] = cursor.now;
+    places[2] = flag_of(cursor.low);
+    places[3] = cursor.inside;
+    places[4] = number;
+    places[5] = first;
+    places[6] = last;
 }
 
 // The next answer from the cursor in the first four places on, in their place.

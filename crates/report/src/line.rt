@@ -19,7 +19,7 @@ impl Line {
 
     /// Writes the line over the whole of its place.
     #[tactic(auto, using(crate::proofs::Rows::put_whole, crate::proofs::Rows::three_set), unfolding(crate::specs::Report::report_line))]
-    pub fn write(self, place: &mut [u8])
+    pub(crate) fn write(self, place: &mut [u8])
         requires { length place.old ≡ 19 }
         ensures { place.new ≡ text_of self }
     {

@@ -42,7 +42,7 @@ impl Row {
 
     /// Its line: the first and the last instant of the stretch, and the letter.
     #[tactic(auto, using(crate::proofs::Rows::row_text))]
-    pub fn line(&self) -> Line
+    pub(crate) fn line(&self) -> Line
         requires { (stretch_of self.now).last < 100000000 }
         ensures { text_of result ≡ row_line self.now }
     {

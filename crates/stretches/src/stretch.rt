@@ -1,7 +1,7 @@
 //! A stretch by its first and its last instant.
 
 ghost use Rattle.std.specs.Prelude.{◌≡◌, ◌<◌, ◌≤◌, ◌^◌};
-ghost use Rattle.stretches.specs.Figures.{length_of};
+ghost use Rattle.stretches.specs.Figures.{length_of, through};
 
 use std::marker::Model;
 
@@ -66,14 +66,16 @@ impl Stretch {
         self.last + 1 - self.first
     }
 
-    /// From the first instant of this one to the last of a later one, and as running as that.
+    /// From the first instant of this one to the last of a later one, and as running as that. Of one that ends before this one begins it has no instant: then
+    /// the first instant alone.
     pub fn through(self, later: Stretch) -> Stretch
-        requires { self.first ≤ later.last }
-        ensures { result ≡ record { first = self.first; last = later.last; running = later.running } }
+        ensures joined { self.first ≤ later.last → result ≡ record { first = self.first; last = later.last; running = later.running } }
+        ensures whole { result ≡ through self later }
     {
         Stretch {
             first: self.first,
-            ..later
+            last: self.first.max(later.last),
+            running: later.running,
         }
     }
 }
