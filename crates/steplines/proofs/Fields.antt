@@ -1,5 +1,5 @@
 -- Laws of fields. Assumes nothing.
-use Rattle.std.proofs.Common.{◌≡◌, ℕ, suc, ◌-◌, ◌<◌, Bool, true, false, cond, not, List, [], ◌∷◌, ◌++◌, Some, None, length, take, drop, refl, ◌∙◌, arith, append_assoc}
+use Rattle.std.proofs.Common.{◌≡◌, ℕ, suc, ◌-◌, ◌<◌, ◌≤◌, get_or, Bool, true, false, cond, not, List, [], ◌∷◌, ◌++◌, Some, None, length, take, drop, refl, ◌∙◌, arith, append_assoc}
 use Rattle.std.proofs.Math.Numerals.{one-add}
 use Rattle.std.specs.Prelude.{position, unwrap_or, eqb, ltb, ◌&&◌}
 use Rattle.std.specs.List.{position_or_len}
@@ -7,11 +7,11 @@ use Rattle.std.proofs.lemmas.List.{take_rest}
 use Rattle.std.proofs.lemmas.List.Sums.{prefix_len-le-length}
 use Rattle.std.specs.Cmp.Lexicographic.{pointwise}
 use mathlib.Core.List.{append-nil}
-use mathlib.Core.Bool.{and-false}
+use mathlib.Core.Bool.{and-false, false≢true}
 use borrow.Table.Steps.{cases}
 use borrow.Author.Tests.{eqb-true, eqb-false, ltb-true, ltb-false, eq-eqb, ne_eqb}
 use Rattle.lines.specs.Bytes.{starts}
-use Rattle.steplines.specs.Fields.{is_blank, closed, fields_from, fields, is_word}
+use Rattle.steplines.specs.Fields.{is_blank, closed, fields_from, fields, begins, is_word}
 
 -- ---- the first place at which p passes
 
@@ -80,6 +80,23 @@ field_some l line front back i n e r f p q =
     let s = position_at in_field l i e in
     let whole : line ≡ later l = r ∙ take_rest l i ∙ rw (← s.1) refl in
     rw (p, q, f, whole) (first_field l (omega arith))
+
+-- ---- the first byte
+
+-- it is the one that the bytes begin with
+pub begins_first : (l : List ℕ) (b : ℕ) → 0 < length l → eqb (get_or l 0 0) b ≡ begins b l
+begins_first [] b h = absurd (omega arith)
+begins_first (a ∷ l) b h = refl
+
+-- no bytes begin with none
+pub begins_none : (l : List ℕ) (b : ℕ) → length l ≤ 0 → false ≡ begins b l
+begins_none [] b h = refl
+begins_none (a ∷ l) b h = absurd (omega arith)
+
+-- and those that begin with one have it
+pub begins_some : (l : List ℕ) (b : ℕ) → begins b l ≡ true → 0 < length l
+begins_some [] b e = absurd (false≢true e)
+begins_some (a ∷ l) b e = omega arith
 
 -- ---- a word
 

@@ -8,18 +8,25 @@ use mathlib.Core.Bool.{Bool, true, false, cond}
 use mathlib.Core.List.{List, [], ◌∷◌, map}
 use borrow.Table.Steps.{cases}
 use borrow.Author.Tests.{ne_eqb}
-use lib.Dec.{ltb}
+use lib.Dec.{eqb, ltb}
 use lib.Ieee.{Float}
-use lib.ListN.{length, get_or}
+use lib.ListN.{length, take, drop, get_or, length-drop}
+use lib.Seq.{length-take-le}
 use Rattle.settings.specs.declared.Settings.{Settings}
 use Rattle.settings.specs.Values.{with_setting, no_settings, set_all}
 use Rattle.runs.specs.declared.Step.TheVariants.{Clock}
 use Rattle.runs.specs.Letters.{letter_of}
 use Rattle.steplines.specs.Fields.{fields, begins, is_word}
-use Rattle.steplines.specs.Numbers.{is_number, number_of, is_reading, angle_in, degrees_of}
-use Rattle.steplines.specs.StepLine.{Meaning, Skip, Take, Wrong, clock_with, step_with, step_of, settings_word, all_numbers, start_with, start_of, meaning_of}
+use Rattle.steplines.specs.Numbers.{is_number, number_of, whole_of, decimals_of, is_reading, angle_in, degrees_of}
+use Rattle.steplines.specs.StepLine.{Meaning, Skip, Take, Wrong, clock_with, clock_of, step_with, step_of, settings_word, all_numbers, start_with, start_of, meaning_of}
 
 -- ---- a clock step, with a point and without, with a minus and without
+
+-- the bytes before the point are no more than all
+pub whole_within : (l : List ℕ) → length (whole_of l) ≤ length l
+unfolding whole_of
+whole_within [] = omega arith
+whole_within (b ∷ l) = let more = whole_within l in cases (eqb b 46) (λ e. rw e (omega arith)) (λ e. rw e (omega arith))
 
 module _ (minus : Bool) (whole decimals : List ℕ) where
   pub clock_read_law : is_reading whole decimals ≡ true → (x : Float) → x ≡ degrees_of (angle_in minus whole decimals) → Take (Clock x) ≡ clock_with minus whole decimals
@@ -29,6 +36,14 @@ module _ (minus : Bool) (whole decimals : List ℕ) where
   pub clock_wrong : is_reading whole decimals ≡ false → Wrong ≡ clock_with minus whole decimals
   unfolding clock_with
   clock_wrong t = rw t
+
+module _ (l : List ℕ) where
+  -- with a minus, and without
+  pub clock_minus : begins 45 l ≡ true → clock_with true (whole_of (drop 1 l)) (decimals_of (drop 1 l)) ≡ clock_of l
+  clock_minus e = rw e
+
+  pub clock_plain : begins 45 l ≡ false → clock_with false (whole_of l) (decimals_of l) ≡ clock_of l
+  clock_plain e = rw e
 
 -- ---- a step
 module _ (b : ℕ) (fs : List (List ℕ)) where
@@ -123,7 +138,10 @@ module _ (l : List ℕ) (c : begins 35 l ≡ false) where
       unfolding meaning_of
       meaning_step w = rw (c, s, e, w)
 
--- a word of one byte
+-- a word has the bytes of its place; and a word of one byte
+pub word_length : (l : List ℕ) (i n : ℕ) → i + n ≤ length l → length (take n (drop i l)) ≡ n
+word_length l i n h = length-take-le n (drop i l) (omega (arith, length-drop i l))
+
 pub one_byte : (word : List ℕ) → 1 ≤ length word → length word < 2 → word ≡ get_or word 0 0 ∷ []
 one_byte [] h g = absurd (omega arith)
 one_byte (b ∷ []) h g = refl

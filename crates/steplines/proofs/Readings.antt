@@ -127,6 +127,11 @@ module _ (d p x s : ℕ) (spreads : d * 1000000 ≡ x * p + s) (less : s < p) wh
       (λ f. rw (e, f) (ne_eqb (64 * d % p) 0 (λ z. omega (arith, z, remainder, left_some (eqb-false (x % 15625) 0 f))))))
       (λ e. rw e (ne_eqb (64 * d % p) 0 (λ z. omega (arith, z, remainder, eqb-false s 0 e))))
 
+-- an angle that is taken is small
+pub six_small : (minus a : Bool) (q : ℕ) → (a && leb q (most_with minus)) ≡ true → q ≤ 5760
+six_small true a q t = omega (arith, leb-true q 0 (both a (leb q 0) t).1)
+six_small false a q t = leb-true q 5760 (both a (leb q 5760) t).1
+
 -- with a minus only 0 is taken, which a whole number of 64ths is only if d is
 none_given : (d p : ℕ) → d ≡ 0 → 64 * d / p ≡ 0
 none_given d p z = rw z (zero-div p)

@@ -2,20 +2,22 @@
 use Rattle.std.specs.Prelude.{None, Some, Option}
 use Prim.Native.Nat.{ℕ, zero, suc, ◌≤◌}
 use native.Mathlib.Omega.{arith}
-use mathlib.Core.Path.{◌≡◌, sym, ap, ◌∙◌}
+use mathlib.Core.Path.{◌≡◌, refl, sym, ap, ◌∙◌}
+use mathlib.Core.Bool.{not}
 use mathlib.Core.List.{List}
 use lib.Dec.{eqb}
 use lib.ListN.{length, set}
-use borrow.Author.Tests.{eq-eqb, ne_eqb}
+use borrow.Author.Tests.{eq-eqb, ne_eqb, eqb-true, not-false}
 use Rattle.lines.specs.Bytes.{splice}
 use Rattle.lines.proofs.Splices.{splice_one}
 use Rattle.settings.specs.declared.Kind.{Kind}
 use Rattle.settings.specs.declared.Settings.{Settings}
 use Rattle.settings.specs.Refusal as verdicts
 use Rattle.settings.specs.Settings.{settings_refusal, verdict_of, verdict}
+use Rattle.settings.proofs.Laws.{refuse_none}
 use Rattle.cabinet.specs.declared.Order.{Order}
 use Rattle.cabinet.specs.declared.Control.{Control}
-use Rattle.cabinet.specs.Cabinet.{Taken, Answer}
+use Rattle.cabinet.specs.Cabinet.{Taken, Refused, Answer, number_of, start_answer}
 use Rattle.runs.specs.Run.{or_else, or_full}
 use Rattle.stepwise.specs.Calls.{Called, called, packed_answer, answered, lent, started_by, put_clock, of_kind, or_no_step}
 use Rattle.stepwise.proofs.Words.{all_spliced}
@@ -40,6 +42,10 @@ module _ (a : Answer) (new ws : List ℕ) (r : ℕ) (packed : r ≡ packed_answe
   pub answered_taken : (o : Option Order) (after : List ℕ) → a ≡ Taken o → after ≡ new → called r after ≡ answered a new ws
   answered_taken o after t e = rw (packed, t, e)
 
+-- a number packed alone
+pub refused_packed : (k : ℕ) → packed_answer (Refused k) ≡ k
+refused_packed k = omega arith
+
 -- a clock step taken that gives no command
 module _ (ws : List ℕ) (o : Option Order) (w : Control) where
   pub clock_quiet : 16 ≤ length ws → o ≡ None → called 0 (set ws 15 w.now) ≡ called (packed_answer (Taken o)) (put_clock ws o w)
@@ -52,6 +58,20 @@ module _ {X : Type 0} (named : Option Kind) (approach : Kind → X) (ws : List �
   named_kind k e = rw e
 
 -- ---- a start
+
+-- its number is the settings' own
+pub start_number : (s : Settings) → number_of (start_answer (verdict s)) ≡ settings_refusal s
+unfolding verdict
+start_number s = go (settings_refusal s)
+  where
+    go : (k : ℕ) → number_of (start_answer (verdict_of k)) ≡ k
+    go zero = refl
+    go (suc k) = refl
+
+-- where none refuses, the words are there
+pub full_none : (own words many : ℕ) → or_full own (eqb words many) ≡ 0 → words ≡ many
+full_none zero words many e = eqb-true words many (not-false _ (refuse_none (not (eqb words many)) 13 e).0)
+full_none (suc k) words many e = absurd (let z : suc k ≡ 0 = e in omega arith)
 
 -- refused by the settings' own number, on words of the wrong length, and taken: the words are to be new
 module _ (many : ℕ) (ws : List ℕ) (s : Settings) (new : List ℕ) where

@@ -1,9 +1,9 @@
 -- The table asked where it lies, four words an entry. Assumes nothing.
-use Prim.Native.Nat.{ℕ, zero, suc, ◌+◌, ◌*◌, ◌<◌}
+use Prim.Native.Nat.{ℕ, zero, suc, ◌+◌, ◌*◌, ◌%◌, ◌<◌}
 use native.Mathlib.Omega.{arith}
 use mathlib.Core.Path.{◌≡◌, refl, sym, ap, ap₂, ◌∙◌}
-use mathlib.Core.Bool.{Bool, true, false, cond}
-use lib.Dec.{ltb}
+use mathlib.Core.Bool.{Bool, true, false, cond, not, ◌&&◌}
+use lib.Dec.{ltb, eqb}
 use mathlib.Core.List.{List, [], ◌∷◌, map}
 use lib.ListN.{length, length-map, take, drop, get_or, set}
 use lib.Seq.{take-take, drop-drop, get_or-drop, get_or-set_same}
@@ -13,6 +13,7 @@ use Rattle.std.proofs.lemmas.List.Recursion.{is_position_or_len}
 use Rattle.std.specs.Prelude.{Option, Some, None, Result, Ok, Err}
 use Rattle.settings.specs.declared.refusal.Refusal.{Refusal}
 use Rattle.settings.specs.declared.refusal.Refusal.TheVariants.{NoSuchTrain}
+use Rattle.trains.specs.declared.Standing.TheVariants.{Away, Coming, Inside}
 use Rattle.trains.specs.declared.Table.{Table}
 use Rattle.trains.specs.Trains.{is_train, train_number, is_present}
 use Rattle.std.specs.List.{position, position_or_len, filter_map, cons_option}
@@ -21,8 +22,32 @@ use Rattle.trains.specs.declared.Entry.{Entry}
 use Rattle.trains.proofs.Lists.{index_position}
 use Rattle.trains.specs.Table.{index_of, away_entry, is_of, is_free, entry_of, standing_of, place_for, no_place, found_for}
 use Rattle.trains.proofs.Search as trains
-use Rattle.stepwise.specs.Words.{entry_in, entries_from, table_from}
+use Rattle.stepwise.specs.Words.{standing_from, entry_in, entries_from, table_from}
 use Rattle.stepwise.proofs.Words.{entries_many}
+
+-- ---- an entry by its words
+
+present_from : (w a : ℕ) → is_present (standing_from w a) ≡ not (eqb w 0)
+present_from w a = go (eqb w 0) (eqb w 1)
+  where
+    go : (x y : Bool) → is_present (cond x Away (cond y (Coming a) (Inside a))) ≡ not x
+    go true y = refl
+    go false true = refl
+    go false false = refl
+
+-- it is train n's, which is present
+pub of_words : (ws : List ℕ) (i n : ℕ) → (not (eqb (get_or ws (i + 2) 0) 0) && eqb (get_or ws i 0 % 65536) n) ≡ is_of n (entry_in ws i)
+unfolding is_of
+of_words ws i n = ap (λ (b : Bool). b && eqb (get_or ws i 0 % 65536) n) (sym (present_from (get_or ws (i + 2) 0) (get_or ws (i + 3) 0)))
+
+-- or no train has it
+pub free_words : (ws : List ℕ) (i : ℕ) → eqb (get_or ws (i + 2) 0) 0 ≡ is_free (entry_in ws i)
+unfolding is_free
+free_words ws i = twice (eqb (get_or ws (i + 2) 0) 0) ∙ ap not (sym (present_from (get_or ws (i + 2) 0) (get_or ws (i + 3) 0)))
+  where
+    twice : (b : Bool) → b ≡ not (not b)
+    twice true = refl
+    twice false = refl
 
 -- the entry of four words cut out
 module _ (ws : List ℕ) (i : ℕ) where

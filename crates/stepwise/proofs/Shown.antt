@@ -15,7 +15,11 @@ use Rattle.runs.specs.Run.{over}
 use Rattle.stepwise.specs.Words.{head_from, bench_from}
 use Rattle.stepwise.specs.Shown.{pose_numbers, posed, gate_number, gate_in, Showed, showed, shown_in, pose_shown, gate_angle, gate_over, gate_shown}
 
--- two values in the first two places
+-- one value in the first place, and two in the first two
+pub one_over : {A : Type 0} (old : List A) (x : A) → 1 ≤ length old → set old 0 x ≡ over (x ∷ []) old
+one_over [] x h = absurd (omega arith)
+one_over (a ∷ old) x h = refl
+
 pub two_over : {A : Type 0} (old : List A) (x y : A) → 2 ≤ length old → set (set old 0 x) 1 y ≡ over (x ∷ y ∷ []) old
 two_over [] x y h = absurd (omega arith)
 two_over (a ∷ []) x y h = absurd (omega arith)

@@ -1,18 +1,20 @@
 -- Laws of who is first: kept true by each change of the table, and what the full look says. Assumes nothing.
 use mathlib.Core.Path.{◌≡◌, refl, sym, ap, ap₂, ◌∙◌}
-use mathlib.Core.Bool.{Bool, true, false, cond, ◌&&◌, ◌||◌, true≢false}
+use mathlib.Core.Bool.{Bool, true, false, cond, not, ◌&&◌, ◌||◌, true≢false}
 use mathlib.Core.List.{List, [], ◌∷◌}
 use mathlib.Core.Logic.{inl, inr}
-use Prim.Native.Nat.{ℕ, zero, suc, ◌<◌}
+use Prim.Native.Nat.{ℕ, zero, suc, ◌+◌, ◌<◌}
+use native.Mathlib.Numerals.{add-one}
 use native.Mathlib.Omega.{arith}
 use native.Mathlib.Decide.{ℕ_discrete}
-use lib.Dec.{leb}
-use lib.ListN.{length, get_or, set, length-set}
-use lib.Seq.{set-get_or, get_or-set_same, get_or-set_other}
+use lib.Dec.{leb, eqb}
+use lib.ListN.{length, drop, get_or, set, length-set, drop_of_length-le}
+use lib.Seq.{drop-cons, set-get_or, get_or-set_same, get_or-set_other}
 use borrow.Author.Tests.{eq-eqb}
 use Rattle.std.specs.Prelude.{Option, Some, None}
 use Rattle.std.proofs.lemmas.Bool.Decides.{nat_tests}
 use Rattle.settings.specs.declared.Settings.{Settings}
+use Rattle.settings.proofs.Laws.{neither}
 use Rattle.trains.specs.declared.Standing.{Standing}
 use Rattle.trains.specs.declared.Entry.{Entry}
 use Rattle.trains.specs.declared.Table.{Table}
@@ -57,6 +59,67 @@ own_train s q e a o = elim (cases_of (is_present e.standing)) [
   | inl p ↦ says_own a.train e p (grind arith)
   | inr p ↦ absurd (let x = own_free s q e p in cc)
 ]
+
+-- ---- the scan of all trains but n, from the last entry to the first
+
+-- an entry of another train that has the instant asked for adds it
+pub other_some : (s : Settings) (q : Question) (n : ℕ) (e : Entry) → (has_own q e.standing && not (eqb e.number n)) ≡ true →
+    own_but s q n e ≡ Some (due e.number (instant_of s q e))
+unfolding own_but own_of
+other_some s q n e p = go (has_own q e.standing) (eqb e.number n) p
+  where
+    go : (has same : Bool) → (has && not same) ≡ true → cond same None (cond has (Some (due e.number (instant_of s q e))) None) ≡ Some (due e.number (instant_of s q e))
+    go true false p = refl
+    go true true p = absurd (true≢false (sym p))
+    go false same p = absurd (true≢false (sym p))
+
+-- and any other adds nothing
+pub other_none : (s : Settings) (q : Question) (n : ℕ) (e : Entry) → (has_own q e.standing && not (eqb e.number n)) ≡ false → own_but s q n e ≡ None
+unfolding own_but own_of
+other_none s q n e p = go (has_own q e.standing) (eqb e.number n) p
+  where
+    go : (has same : Bool) → (has && not same) ≡ false → cond same None (cond has (Some (due e.number (instant_of s q e))) None) ≡ None
+    go true true p = refl
+    go true false p = absurd (true≢false p)
+    go false true p = refl
+    go false false p = refl
+
+-- an entry that no train has does not count
+other_free : (s : Settings) (q : Question) (n : ℕ) (e : Entry) (best : Option Due) → is_present e.standing ≡ false → earlier_of (own_but s q n e) best ≡ best
+unfolding own_but
+other_free s q n e best p = rw (own_free s q e p) (go (eqb e.number n))
+  where
+    go : (same : Bool) → earlier_of (cond same None None) best ≡ best
+    go true = nobody_earlier best
+    go false = nobody_earlier best
+
+module _ (own : Entry → Option Due) (l : List Entry) where
+  -- past the last entry nobody is first
+  pub first_end : (i : ℕ) → length l ≡ i → first_of own (drop i l) ≡ None
+  first_end i h = rw (drop_of_length-le l {i = i} (omega arith))
+
+  first_next : (i j : ℕ) → i + 1 ≡ j → i < length l → (best : Option Due) → best ≡ first_of own (drop j l) → earlier_of (own (get_or l i away_entry)) best ≡ first_of own (drop i l)
+  first_next i j z h best p = rw (p, ← z, add-one, drop-cons l i away_entry)
+
+  -- four entries more
+  pub first_four : (i : ℕ) → i + 3 < length l → (best : Option Due) → best ≡ first_of own (drop (i + 4) l) →
+      earlier_of (own (get_or l i away_entry)) (earlier_of (own (get_or l (i + 1) away_entry)) (earlier_of (own (get_or l (i + 2) away_entry)) (earlier_of (own (get_or l (i + 3) away_entry)) best)))
+      ≡ first_of own (drop i l)
+  first_four i h best p =
+      first_next i (i + 1) refl (omega arith) _
+      (first_next (i + 1) (i + 2) (omega arith) (omega arith) _
+      (first_next (i + 2) (i + 3) (omega arith) (omega arith) _
+      (first_next (i + 3) (i + 4) (omega arith) (omega arith) best p)))
+
+-- which no train has
+pub four_free : (s : Settings) (q : Question) (n : ℕ) (a b c d : Entry) (best : Option Due) →
+    ((is_present a.standing || is_present b.standing) || (is_present c.standing || is_present d.standing)) ≡ false →
+    best ≡ earlier_of (own_but s q n a) (earlier_of (own_but s q n b) (earlier_of (own_but s q n c) (earlier_of (own_but s q n d) best)))
+four_free s q n a b c d best none =
+    let n₁ = neither (is_present a.standing || is_present b.standing) _ none in
+    let n₂ = neither (is_present a.standing) (is_present b.standing) n₁.0 in
+    let n₃ = neither (is_present c.standing) (is_present d.standing) n₁.1 in
+    sym (other_free s q n a _ n₂.0 ∙ other_free s q n b _ n₂.1 ∙ other_free s q n c _ n₃.0 ∙ other_free s q n d best n₃.1)
 
 -- ---- lists of entries
 

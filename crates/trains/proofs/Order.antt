@@ -3,7 +3,7 @@ use mathlib.Core.Path.{◌≡◌, refl, sym, ap, ◌∙◌}
 use mathlib.Core.Bool.{true, false, cond, ◌||◌}
 use mathlib.Core.List.{List, [], ◌∷◌}
 use mathlib.Core.Logic.{◌⊎◌, inl, inr}
-use Prim.Native.Nat.{ℕ, ◌≤◌}
+use Prim.Native.Nat.{ℕ, ◌≤◌, ◌<◌}
 use native.Mathlib.Omega.{arith}
 use Rattle.std.specs.Prelude.{Option, Some, None}
 use Rattle.std.specs.List.{filter_map, cons_option, reduce, fold}
@@ -13,10 +13,13 @@ use Rattle.trains.specs.declared.Entry.{Entry}
 use Rattle.trains.specs.declared.Due.{Due}
 use Rattle.trains.specs.First.{before, earlier_of, reached_by, IsFirst, first_of}
 
--- ---- what `before` says
+-- ---- what `before` says, both ways
 module _ (a b : Due) where
   pub before_says : before a b ≡ true → (a.instant ≤ b.instant) × (a.instant ≡ b.instant → a.train ≤ b.train)
   before_says h = (grind (arith, nat_tests), λ e. grind (arith, nat_tests))
+
+  pub before_denies : before a b ≡ false → (b.instant ≤ a.instant) × (a.instant ≡ b.instant → b.train < a.train)
+  before_denies h = (grind (arith, nat_tests), λ e. grind (arith, nat_tests))
 
   same_due : a.instant ≡ b.instant → a.train ≡ b.train → a ≡ b
   same_due p q = λ i. record { instant = p i; train = q i }
