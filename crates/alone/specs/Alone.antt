@@ -54,7 +54,7 @@ abbrev pub ended : Settings → Result Cabinet Refusal → Ended
 ended s (Ok c) = record { verdict = Taken; cabinet = c }
 ended s (Err r) = record { verdict = Refused (refusals.number_of r); cabinet = fresh_cabinet s }
 
--- what comes back: the cabinet after the list, or the fresh one where it is refused
+-- what comes back: the cabinet after the list; where it is refused none does, and the fresh one stands for it
 abbrev pub ended_by : ℕ → Settings → List Heard → Ended
 ended_by zero s xs = record { verdict = Taken; cabinet = cabinet_after (fresh_cabinet s) xs }
 ended_by (suc k) s xs = record { verdict = Refused (suc k); cabinet = fresh_cabinet s }

@@ -66,8 +66,8 @@ impl Stretch {
         self.last + 1 - self.first
     }
 
-    /// From the first instant of this one to the last of a later one, and as running as that. Of one that ends before this one begins it has no instant: then
-    /// the first instant alone.
+    /// From the first instant of this one to the last of a later one, and as running as that. Where that one ends before this one begins, this one's first
+    /// instant alone.
     pub fn through(self, later: Stretch) -> Stretch
         ensures joined { self.first ≤ later.last → result ≡ record { first = self.first; last = later.last; running = later.running } }
         ensures whole { result ≡ through self later }
